@@ -7,25 +7,25 @@ use Rattle.sl_ports.specs.declared.sinks.SinkAnswer.{SinkAnswer}
 use Rattle.sl_ports.specs.declared.sinks.SinkAnswer.TheVariants.{Done, Failed}
 
 -- two parts in a row are their text
-pub Appends-append : (old mid new : Option (List ℕ)) (xs ys : List ℕ) → Appends old mid xs → Appends mid new ys → Appends old new (xs ++ ys)
-Appends-append None mid new xs ys first second = tt
-Appends-append (Some os) None new xs ys first second = absurd first
-Appends-append (Some os) (Some ms) None xs ys first second = absurd second
-Appends-append (Some os) (Some ms) (Some ns) xs ys first second = second ∙ (ap (λ zs. zs ++ ys) first ∙ append_assoc os xs ys)
+pub appends_in_parts : (old mid new : Option (List ℕ)) (xs ys : List ℕ) → Appends old mid xs → Appends mid new ys → Appends old new (xs ++ ys)
+appends_in_parts None mid new xs ys first second = tt
+appends_in_parts (Some os) None new xs ys first second = absurd first
+appends_in_parts (Some os) (Some ms) None xs ys first second = absurd second
+appends_in_parts (Some os) (Some ms) (Some ns) xs ys first second = second ∙ (ap (λ zs. zs ++ ys) first ∙ append_assoc os xs ys)
 
 -- a part that is done, and then one with this answer
-pub Writes-append : (old mid new : Option (List ℕ)) (xs ys : List ℕ) (answer : SinkAnswer) → Appends old mid xs → Writes mid new ys answer → Writes old new (xs ++ ys) answer
-Writes-append old mid new xs ys Done first second = Appends-append old mid new xs ys first second
-Writes-append old mid new xs ys Failed first second = record {
+pub writes_in_parts : (old mid new : Option (List ℕ)) (xs ys : List ℕ) (answer : SinkAnswer) → Appends old mid xs → Writes mid new ys answer → Writes old new (xs ++ ys) answer
+writes_in_parts old mid new xs ys Done first second = appends_in_parts old mid new xs ys first second
+writes_in_parts old mid new xs ys Failed first second = record {
   part = xs ++ second.part;
   rest = second.rest;
   whole = ap (λ zs. xs ++ zs) second.whole ∙ sym (append_assoc xs second.part second.rest);
-  appended = Appends-append old mid new xs second.part first second.appended;
+  appended = appends_in_parts old mid new xs second.part first second.appended;
 }
 
 -- a prefix of a part is one of the text that goes on
-pub AppendsPrefix-append : (old new : Option (List ℕ)) (xs ys : List ℕ) → AppendsPrefix old new xs → AppendsPrefix old new (xs ++ ys)
-AppendsPrefix-append old new xs ys first = record {
+pub prefix_of_more : (old new : Option (List ℕ)) (xs ys : List ℕ) → AppendsPrefix old new xs → AppendsPrefix old new (xs ++ ys)
+prefix_of_more old new xs ys first = record {
   part = first.part;
   rest = first.rest ++ ys;
   whole = ap (λ zs. zs ++ ys) first.whole ∙ append_assoc first.part first.rest ys;
@@ -33,6 +33,6 @@ AppendsPrefix-append old new xs ys first = record {
 }
 
 -- what one answer says is what is said of the text told
-pub Tells-of : (before now : ℕ) (old new : Option (List ℕ)) (text : List ℕ) (answer : SinkAnswer) → Counts before now (is_failed answer) → Writes old new text answer → Tells before now old new text
-Tells-of before now old new text Done counts written = inl written
-Tells-of before now old new text Failed counts written = inr (counts.rose refl, written)
+pub tells_by_answer : (before now : ℕ) (old new : Option (List ℕ)) (text : List ℕ) (answer : SinkAnswer) → Counts before now (is_failed answer) → Writes old new text answer → Tells before now old new text
+tells_by_answer before now old new text Done counts written = inl written
+tells_by_answer before now old new text Failed counts written = inr (counts.rose refl, written)

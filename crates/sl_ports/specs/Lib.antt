@@ -3,3 +3,5 @@ pub mod Files
 pub mod Texts
 pub mod Reading
 pub mod Keeping
+pub mod Calls
+pub mod MemoryEnds

@@ -10,8 +10,13 @@
 //! Begin with `sinks` and `keepers`. The rules are "The outside" in docs/rules.md.
 #![tactic(auto)]
 
+mod calls;
 mod keepers;
+mod mem_keeper;
+mod mem_sink;
 mod sinks;
 
 pub use keepers::{FileAnswer, KeepAnswer, Keeper};
+pub use mem_keeper::MemKeeper;
+pub use mem_sink::MemSink;
 pub use sinks::{Sink, SinkAnswer};
