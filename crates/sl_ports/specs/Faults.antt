@@ -1,0 +1,22 @@
+-- What stands outside of the program keeps counts of its faults, one for each kind of call.
+-- A count never falls. It rises by one in each call of its kind that answers a failure, and in no other call.
+-- At the last value of its type it stands still.
+use Rattle.std.specs.Prelude.{◌≡◌, ℕ, ◌+◌, ◌-◌, ◌^◌, ◌≤◌, min, max, Bool, IsTrue, IsFalse}
+
+-- the last value of a count
+abbrev pub last_count : ℕ
+last_count = 2 ^ 64 - 1
+
+-- a count after one more; at its last value it stands still
+abbrev pub raised : ℕ → ℕ
+raised count = max count (min (count + 1) last_count)
+
+-- the count rose from before to now, or stands at its last value
+abbrev pub Rose : ℕ → ℕ → Type 0
+Rose before now = min (before + 1) last_count ≤ now
+
+-- what a call that failed or not did to the count of its faults
+pub record Counts (before now : ℕ) (failed : Bool) : Type 0 where
+  pub later : before ≤ now
+  pub rose : IsTrue failed → Rose before now
+  pub stayed : IsFalse failed → now ≡ before

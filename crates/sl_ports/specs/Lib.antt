@@ -1,0 +1,7 @@
+pub mod Faults
+pub mod Files
+pub mod Texts
+pub mod Reading
+pub mod Keeping
+pub mod Calls
+pub mod MemoryEnds
