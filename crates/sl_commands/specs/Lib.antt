@@ -1,0 +1,6 @@
+pub mod Verbs
+pub mod Controls
+pub mod Commands
+pub mod Entries
+pub mod Settings
+pub mod TextFaults

@@ -1,0 +1,22 @@
+//! The words of the looper.
+#![tactic(auto)]
+
+mod block;
+mod command;
+mod control;
+mod entry;
+mod fault;
+mod mode;
+mod reply;
+mod settings;
+mod verb;
+
+pub use block::{Block, PartFrames};
+pub use command::{Command, Target};
+pub use control::{Control, Range};
+pub use entry::{Entries, Entry, MIDI, OSC, SAVER};
+pub use fault::{ReadText, TextFault, TextKind};
+pub use mode::{Face, Held, How, Mode, Started};
+pub use reply::{Reply, What};
+pub use settings::{Globals, Initial, Settings, StripSettings, Strips};
+pub use verb::Verb;
