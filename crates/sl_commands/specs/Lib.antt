@@ -3,4 +3,5 @@ pub mod Controls
 pub mod Commands
 pub mod Entries
 pub mod Settings
+pub mod Blocks
 pub mod TextFaults
