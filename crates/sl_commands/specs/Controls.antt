@@ -3,6 +3,7 @@
 -- Lengths, positions and times are frames, feedback, wet and dry thousandths, rec_thresh is an absolute sample.
 -- quantize is 0 off, 1 cycle, 2 eighth of a cycle, 3 loop. round is 0 or 1.
 -- sync_source is -3 for the pulse, 0 for none, or a loop's number counted from 1. selected_loop_num counts from 0.
+use Rattle.std.specs.Str.{bytes_eq}
 use Rattle.std.specs.Prelude.{ℕ, ℤ, pos, negsuc, Bool, true, false, ◌&&◌, ◌==◌, nat_le, nat_lt, List, [], ◌∷◌, codes}
 use Rattle.sl_commands.specs.declared.control.Control.{Control}
 use Rattle.sl_commands.specs.declared.control.Control.TheVariants.{Feedback, Wet, Round, Quantize, RecThresh, State, LoopLen, LoopPos, CycleLen, Waiting, Layers, RedoLayers, Refused, Reversed, FreeTime, Dry, SyncSource, SelectedLoopNum, FadeStep, LongPress, Pulse}
@@ -53,6 +54,10 @@ control_name c = (control_row c).name
 abbrev pub is_of_loop : Control → Bool
 is_of_loop c = (control_row c).of_loop
 
+-- the bytes are the name of a control
+abbrev pub has_control_name : List ℕ → Control → Bool
+has_control_name bytes c = bytes_eq (control_name c) bytes
+
 -- a value is in a range, for so many loops
 abbrev pub is_within : Range → ℕ → ℤ → Bool
 is_within ReadOnly loops z = false
@@ -66,6 +71,15 @@ is_within LoopIndex loops (negsuc n) = false
 -- the control can be set to this value, for so many loops
 abbrev pub is_in_range : Control → ℤ → ℕ → Bool
 is_in_range c z loops = is_within (control_row c).range loops z
+
+-- something can be set
+abbrev pub is_settable : Range → Bool
+is_settable ReadOnly = false
+is_settable _ = true
+
+-- the control can be set
+abbrev pub can_be_set : Control → Bool
+can_be_set c = is_settable (control_row c).range
 
 -- the first value of a range: 0 where none is named
 abbrev pub first_of : Range → ℕ

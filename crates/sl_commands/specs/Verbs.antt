@@ -1,5 +1,6 @@
 -- A verb is what is done to a loop. There are 17, each with a name and a number, the first number being 0.
-use Rattle.std.specs.Prelude.{ℕ, List, [], ◌∷◌, codes}
+use Rattle.std.specs.Str.{bytes_eq}
+use Rattle.std.specs.Prelude.{ℕ, Bool, List, [], ◌∷◌, codes}
 use Rattle.sl_commands.specs.declared.verb.Verb.{Verb}
 use Rattle.sl_commands.specs.declared.verb.Verb.TheVariants.{Rec, Overdub, Multiply, Insert, Replace, Substitute, Mute, MuteOn, MuteOff, OneShot, Trigger, Reverse, Pause, Undo, Redo, UndoAll, RedoAll}
 
@@ -42,3 +43,7 @@ verb_number v = (verb_row v).number
 -- all verbs, by their numbers
 abbrev pub verbs : List Verb
 verbs = Rec ∷ Overdub ∷ Multiply ∷ Insert ∷ Replace ∷ Substitute ∷ Mute ∷ MuteOn ∷ MuteOff ∷ OneShot ∷ Trigger ∷ Reverse ∷ Pause ∷ Undo ∷ Redo ∷ UndoAll ∷ RedoAll ∷ []
+
+-- the bytes are the name of a verb
+abbrev pub has_verb_name : List ℕ → Verb → Bool
+has_verb_name bytes v = bytes_eq (verb_name v) bytes

@@ -5,7 +5,7 @@ use crate::verb::Verb;
 use sl_base::Name;
 
 /// The loops that a command is for: the one of this index, all, or the selected one.
-#[derive(Clone, Copy, Debug, PartialEq, Eq)]
+#[derive(Clone, Copy, PartialEq, Eq)]
 pub enum Target {
     One(u8),
     All,
@@ -13,7 +13,7 @@ pub enum Target {
 }
 
 /// One command. A `Set` and a `Get` are of a loop's control, a `SetGlobal` and a `GetGlobal` of the looper's.
-#[derive(Clone, Drop)]
+#[derive(Drop)]
 pub enum Command {
     Down(Target, Verb),
     Up(Target, Verb),

@@ -15,7 +15,7 @@ pub const MIDI: u8 = 1;
 pub const SAVER: u8 = 2;
 
 /// A command with the frame at which it applies, who sent it, and its number among this sender's.
-#[derive(Clone, Drop)]
+#[derive(Drop)]
 pub struct Entry {
     pub frame: u64,
     pub sender: u8,

@@ -14,11 +14,11 @@ mod verb;
 
 pub use block::{Block, PartFrames};
 pub use command::{Command, Target};
-pub use control::{Control, Range};
+pub use control::{Control, Range, control_of, in_range};
 pub use entry::{Entries, Entry, MIDI, OSC, SAVER};
 pub use fault::{ReadText, TextFault, TextKind};
 pub use item::Item;
 pub use mode::{Face, Held, How, Mode, Started};
 pub use reply::{Reply, What};
 pub use settings::{Globals, Initial, Settings, StripSettings, Strips};
-pub use verb::Verb;
+pub use verb::{Verb, verb_of};

@@ -3,7 +3,7 @@
 use crate::verb::Verb;
 
 /// What a loop is doing.
-#[derive(Clone, Copy, Debug, PartialEq, Eq)]
+#[derive(Clone, Copy, PartialEq, Eq)]
 pub enum Mode {
     Off,
     WaitStart,
@@ -20,7 +20,7 @@ pub enum Mode {
 }
 
 /// A verb that is held down, and the frame at which it was pressed.
-#[derive(Clone, Copy, Debug, PartialEq, Eq)]
+#[derive(Clone, Copy, PartialEq, Eq)]
 pub struct Held {
     pub verb: Verb,
     pub frame: u64,
@@ -28,7 +28,7 @@ pub struct Held {
 
 /// A loop as its verbs see it. `pos`, `length`, `cycle` and `base` are frames, `base` the length of the list from which
 /// the open layer began; `layers` and `redo` are numbers of layers, `refused` is what was refused so far.
-#[derive(Clone, Copy, Debug, PartialEq, Eq)]
+#[derive(Clone, Copy, PartialEq, Eq)]
 pub struct Face {
     pub mode: Mode,
     pub rounding: bool,
@@ -46,7 +46,7 @@ pub struct Face {
 }
 
 /// How a frame is written: over the one at a place, in the loop's direction, before it, or at the end.
-#[derive(Clone, Copy, Debug, PartialEq, Eq)]
+#[derive(Clone, Copy, PartialEq, Eq)]
 pub enum How {
     Forward,
     Backward,
@@ -55,7 +55,7 @@ pub enum How {
 }
 
 /// What became of the start of a layer: `Ok`, or there are too many layers, too many seams, or no room on the tape.
-#[derive(Clone, Copy, Debug, PartialEq, Eq)]
+#[derive(Clone, Copy, PartialEq, Eq)]
 pub enum Started {
     Ok,
     Layers,

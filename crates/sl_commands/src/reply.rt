@@ -3,7 +3,7 @@
 use crate::control::Control;
 
 /// What a reply tells: the value of a control, or how the save of a loop or of a session ended.
-#[derive(Clone, Copy, Debug, PartialEq, Eq)]
+#[derive(Clone, Copy, PartialEq, Eq)]
 pub enum What {
     Value(Control),
     Save,
@@ -12,7 +12,7 @@ pub enum What {
 
 /// The answer to a get or a save, with the sender and the number of what it answers.
 /// `index` is the loop's, or -2 for the looper's controls and for a session.
-#[derive(Clone, Copy, Debug, PartialEq, Eq)]
+#[derive(Clone, Copy, PartialEq, Eq)]
 pub struct Reply {
     pub sender: u8,
     pub seq: u32,

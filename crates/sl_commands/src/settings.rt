@@ -9,7 +9,7 @@ use std::alloc::Global;
 use std::marker::Model;
 
 /// The values of the looper's controls, in the units of the table.
-#[derive(Clone, Copy, Debug, PartialEq, Eq)]
+#[derive(Clone, Copy, PartialEq, Eq)]
 pub struct Globals {
     pub dry: u16,
     pub sync_source: i32,
@@ -20,7 +20,7 @@ pub struct Globals {
 }
 
 /// A loop's length and cycle in frames, and the values of its controls that can be set.
-#[derive(Clone, Copy, Debug, Default, PartialEq, Eq)]
+#[derive(Clone, Copy, Default, PartialEq, Eq)]
 pub struct StripSettings {
     pub length: u32,
     pub cycle: u32,
