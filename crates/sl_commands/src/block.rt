@@ -1,6 +1,6 @@
 //! What a save sends to the saver, piece by piece.
 
-ghost use Rattle.std.specs.Prelude.{◌≡◌, [], ◌∷◌, ◌++◌, ◌<◌, length};
+ghost use Rattle.std.specs.Prelude.{◌≡◌, [], ◌∷◌, ◌++◌, ◌<◌, ◌≤◌, length};
 
 use crate::command::Target;
 use crate::settings::Settings;
@@ -21,6 +21,42 @@ impl Model for PartFrames {
     ghost Value = { List Sound };
 
     ghost view = { λ p. p.frames.items };
+}
+
+impl PartFrames {
+    /// The greatest number of frames.
+    pub const CAPACITY: usize = 256;
+
+    /// No frames.
+    pub fn new() -> PartFrames
+        ensures { result ≡ [] }
+    {
+        PartFrames {
+            frames: ArrayVec::new(),
+        }
+    }
+
+    /// Puts one frame at the end.
+    pub fn push(&mut self, frame: Frame)
+        requires { length self.old < 256 }
+        ensures { self.new ≡ self.old ++ frame ∷ [] }
+    {
+        self.frames.push(frame);
+    }
+
+    pub fn as_slice(&self) -> &[Frame]
+        ensures { result.now ≡ self.now }
+    {
+        self.frames.as_slice()
+    }
+
+    /// How many frames there are.
+    pub fn len(&self) -> usize
+        ensures value { result ≡ length self.now }
+        ensures within { length self.now ≤ 256 }
+    {
+        self.frames.as_slice().len()
+    }
 }
 
 /// One piece of a save. `save` is the number of the save, counted from 0, and `index` the loop's.

@@ -1,6 +1,7 @@
 //! Stamped commands: the entries of a journal.
 
 ghost use Rattle.std.specs.Prelude.{◌≡◌, [], ◌∷◌, ◌++◌, length, OnOk, OnErr};
+ghost use Rattle.sl_commands.specs.Entries.{is_sender, is_valid};
 
 use crate::command::Command;
 use sl_base::Memory;
@@ -21,6 +22,37 @@ pub struct Entry {
     pub sender: u8,
     pub seq: u32,
     pub command: Command,
+}
+
+impl Entry {
+    /// The entry may stand in a journal, where there are so many loops.
+    pub fn is_valid(&self, loops: u8) -> bool
+        ensures { result ≡ is_valid loops self.now }
+    {
+        is_sender(self.sender, &self.command) && self.command.is_allowed(loops)
+    }
+
+    /// The same entry once more.
+    pub fn duplicate(&self) -> Entry
+        ensures { result ≡ self.now }
+    {
+        Entry {
+            frame: self.frame,
+            sender: self.sender,
+            seq: self.seq,
+            command: self.command.duplicate(),
+        }
+    }
+}
+
+/// This sender may send this command.
+pub fn is_sender(sender: u8, command: &Command) -> bool
+    ensures { result ≡ is_sender sender command.now }
+{
+    match command {
+        Command::Release(_, _) => sender == SAVER,
+        _ => sender < SAVER,
+    }
 }
 
 /// A list of entries, in the order in which they apply.

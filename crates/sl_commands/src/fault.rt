@@ -1,5 +1,8 @@
 //! What is wrong with a text, and where.
 
+ghost use Rattle.std.specs.Prelude.{◌≡◌};
+ghost use Rattle.sl_commands.specs.TextFaults.{kind_number};
+
 /// What is wrong with a line of a text.
 #[derive(Clone, Copy, Debug, PartialEq, Eq)]
 pub enum TextKind {
@@ -15,6 +18,15 @@ pub enum TextKind {
     TooMany,
     /// The line `end` is missing or isn't whole, or something follows it.
     Ending,
+}
+
+impl TextKind {
+    /// The number of the kind, 1 to 6.
+    pub fn number(self) -> u8
+        ensures { result ≡ kind_number self }
+    {
+        self as u8 + 1
+    }
 }
 
 /// The first fault of a text: its line, counted from 1, and its kind.

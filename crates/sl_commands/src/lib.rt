@@ -13,9 +13,9 @@ mod settings;
 mod verb;
 
 pub use block::{Block, PartFrames};
-pub use command::{Command, Target};
+pub use command::{Command, Target, is_outcome, is_session_name};
 pub use control::{Control, Range, control_of, in_range};
-pub use entry::{Entries, Entry, MIDI, OSC, SAVER};
+pub use entry::{Entries, Entry, MIDI, OSC, SAVER, is_sender};
 pub use fault::{ReadText, TextFault, TextKind};
 pub use item::Item;
 pub use mode::{Face, Held, How, Mode, Started};

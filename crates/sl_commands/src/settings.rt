@@ -46,6 +46,40 @@ impl Model for Strips {
     ghost view = { λ s. s.strips.items };
 }
 
+impl Strips {
+    /// No loops.
+    pub fn new() -> Strips
+        ensures { result ≡ [] }
+    {
+        Strips {
+            strips: ArrayVec::new(),
+        }
+    }
+
+    /// Puts the settings of one more loop at the end.
+    pub fn push(&mut self, strip: StripSettings)
+        requires { length self.old < 16 }
+        ensures { self.new ≡ self.old ++ strip ∷ [] }
+    {
+        self.strips.push(strip);
+    }
+
+    pub fn as_slice(&self) -> &[StripSettings]
+        ensures value { result.now ≡ self.now }
+        ensures within { length self.now ≤ 16 }
+    {
+        self.strips.as_slice()
+    }
+
+    /// How many loops there are.
+    pub fn len(&self) -> usize
+        ensures value { result ≡ length self.now }
+        ensures within { length self.now ≤ 16 }
+    {
+        self.strips.as_slice().len()
+    }
+}
+
 /// The settings of a looper. `rate` is frames a second, 1 to 768000, and there is one strip per loop.
 #[derive(Drop)]
 pub struct Settings {
@@ -81,4 +115,42 @@ impl Model for Initial {
     ghost view = { λ i. i.lists.items };
 
     ghost invariant = { λ i. length i.lists.items ≤ 16 };
+}
+
+impl Initial {
+    /// No loops.
+    pub fn new(alloc: Global) -> Initial
+        ensures { result ≡ [] }
+    {
+        Initial {
+            lists: Vec::new(alloc),
+        }
+    }
+
+    /// Puts the list of one more loop at the end.
+    pub fn push(&mut self, list: Frames) -> Result<(), Memory>
+        requires { length self.old < 16 }
+        ensures ok { OnOk result (self.new ≡ self.old ++ list ∷ []) }
+        ensures unchanged { OnErr result (self.new ≡ self.old) }
+    {
+        match self.lists.push(list) {
+            Ok(()) => Ok(()),
+            Err(_) => Err(Memory),
+        }
+    }
+
+    pub fn as_slice(&self) -> &[Frames]
+        ensures value { result.now ≡ self.now }
+        ensures within { length self.now ≤ 16 }
+    {
+        &self.lists
+    }
+
+    /// How many loops there are.
+    pub fn len(&self) -> usize
+        ensures value { result ≡ length self.now }
+        ensures within { length self.now ≤ 16 }
+    {
+        self.lists.len()
+    }
 }
