@@ -1,1 +1,16 @@
 pub mod OneLoop
+pub mod Limits
+pub mod Layers
+pub mod Stack
+pub mod Room
+pub mod Opening
+pub mod Writing
+pub mod Loop
+pub mod Closing
+pub mod History
+pub mod Starting
+pub mod Verbs
+pub mod Presses
+pub mod Boundaries
+pub mod Gains
+pub mod LoopFrame
