@@ -14,3 +14,9 @@ pub mod Presses
 pub mod Boundaries
 pub mod Gains
 pub mod LoopFrame
+pub mod Values
+pub mod Looper
+pub mod Saves
+pub mod Entries
+pub mod Frame
+pub mod Run
