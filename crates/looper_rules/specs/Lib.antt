@@ -20,3 +20,4 @@ pub mod Saves
 pub mod Entries
 pub mod Frame
 pub mod Run
+pub mod States
