@@ -21,3 +21,4 @@ pub mod Entries
 pub mod Frame
 pub mod Run
 pub mod States
+pub mod Worked
