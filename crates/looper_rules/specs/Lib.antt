@@ -1,4 +1,3 @@
-pub mod OneLoop
 pub mod Limits
 pub mod Layers
 pub mod Stack
@@ -22,3 +21,4 @@ pub mod Frame
 pub mod Run
 pub mod States
 pub mod Worked
+pub mod OneLoop

@@ -9,12 +9,16 @@ use Rattle.sl_commands.specs.declared.How.{How}
 use Rattle.sl_commands.specs.declared.Target.TheVariants.{One}
 use Rattle.sl_commands.specs.declared.Command.{Command}
 use Rattle.sl_commands.specs.declared.Command.TheVariants.{Hit, Release}
+use Rattle.sl_commands.specs.declared.Control.{Control}
 use Rattle.sl_commands.specs.declared.Entry.{Entry}
+use Rattle.sl_commands.specs.declared.Reply.{Reply}
+use Rattle.sl_commands.specs.declared.What.TheVariants.{Value, Save as OfLoop}
 use Rattle.sl_commands.specs.Settings.{default_strip, default_settings}
-use Rattle.looper_rules.specs.Layers.{Cell, Layer, old_cells, fresh_cell}
+use Rattle.looper_rules.specs.Layers.{Cell, Layer, contents, old_cells, fresh_cell}
 use Rattle.looper_rules.specs.Stack.{Stack, LastWrite}
 use Rattle.looper_rules.specs.Loop.{Controls, Loop, new_deck}
 use Rattle.looper_rules.specs.Looper.{Track, Looper}
+use Rattle.looper_rules.specs.Saves.{Save}
 use Rattle.looper_rules.specs.Run.{controls_of, start, run, Ran}
 
 -- mono frames of these 16-bit samples
@@ -45,6 +49,18 @@ journal cs = stamped_from 0 0 cs
 abbrev pub new_looper : ℕ → ℕ → Looper
 new_looper loops chunks = start (default_settings 48000 loops) chunks []
 
+-- what a run gave and left
+abbrev pub gave : List Sound → List Reply → List Save → Looper → Ran
+gave output replies saves left = record { output = output; replies = replies; saves = saves; looper = left }
+
+-- the reply of a loop's value to an entry that came as OSC: its seq, the loop's index, the control and the value
+abbrev pub value_reply : ℕ → ℕ → Control → ℕ → Reply
+value_reply seq k control value = record { sender = 0; seq = seq; index = pos k; what = Value control; value = pos value }
+
+-- the reply to the save of a loop: the seq of the save, the loop's index, and how it ended
+abbrev pub save_reply : ℕ → ℕ → ℕ → Reply
+save_reply seq k outcome = record { sender = 0; seq = seq; index = pos k; what = OfLoop; value = pos outcome }
+
 -- the run of these commands over an input, from one new loop
 abbrev pub one_loop_run : List (ℕ × Command) → List Sound → Ran
 one_loop_run cs input = run (journal cs) input (new_looper 1 4096)
@@ -56,6 +72,14 @@ one_loop_left t = record (new_looper 1 4096) { tracks = t ∷ [] }
 -- a closed layer: its list, cycle, end and seams
 abbrev pub layer : List Sound → ℕ → ℕ → ℕ → Layer Sound
 layer list cycle end seams = record { cells = old_cells list; base = []; base_seams = 0; cycle = cycle; end = end; seams = seams }
+
+-- the layer that was opened at this tape length over one of this list, cycle and seams, and of which these cells are left
+abbrev pub open_layer : List (Cell Sound) → Layer Sound → ℕ → ℕ → Layer Sound
+open_layer cells below end seams = record { cells = cells; base = contents below.cells; base_seams = below.seams; cycle = below.cycle; end = end; seams = seams }
+
+-- these frames, all fresh
+abbrev pub fresh_cells : List Sound → List (Cell Sound)
+fresh_cells list = map fresh_cell list
 
 -- layers, redo layers and tape length, with no pin and no run
 abbrev pub stack : List (Layer Sound) → List (Layer Sound) → ℕ → Stack Sound
