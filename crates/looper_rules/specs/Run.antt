@@ -4,7 +4,7 @@
 -- Before each frame the entries that are due apply: those at the head of the list whose frame isn't later. Entries behind
 -- the last frame apply after it, in order, as at the frame behind the last.
 -- A run gives the output, the replies in the order in which they come, the saves, and the last looper.
-use Rattle.std.specs.Prelude.{ℕ, ◌+◌, Bool, true, false, List, [], ◌∷◌, ◌++◌, length, Option, None, nat_le, option_to_list, if◌then◌else◌}
+use Rattle.std.specs.Prelude.{ℕ, ◌+◌, List, [], ◌∷◌, ◌++◌, length, Option, None, nat_le, option_to_list, if◌then◌else◌}
 use Rattle.sl_base.specs.Sounds.{Sound}
 use Rattle.sl_commands.specs.declared.Mode.TheVariants.{Off, Paused}
 use Rattle.sl_commands.specs.declared.Entry.{Entry}
@@ -13,11 +13,11 @@ use Rattle.sl_commands.specs.declared.StripSettings.{StripSettings}
 use Rattle.sl_commands.specs.Settings.{LooperSettings}
 use Rattle.looper_rules.specs.Layers.{Layer, old_cells}
 use Rattle.looper_rules.specs.Stack.{Stack, empty_stack}
-use Rattle.looper_rules.specs.Loop.{Deck, Controls, Loop, new_deck}
+use Rattle.looper_rules.specs.Loop.{Controls, Loop, new_deck}
 use Rattle.looper_rules.specs.Looper.{Track, Looper}
 use Rattle.looper_rules.specs.Saves.{Save}
 use Rattle.looper_rules.specs.Entries.{applied, reply, save}
-use Rattle.looper_rules.specs.Frame.{Framed, framed}
+use Rattle.looper_rules.specs.Frame.{framed}
 
 -- the controls that a loop begins with
 abbrev pub controls_of : StripSettings → Controls

@@ -6,15 +6,11 @@
 -- moment. In the settings a loop in Recording has its length as its cycle.
 -- A release of loop i takes the pin of a loop's save away and answers that save with its outcome. A release of all loops
 -- does so with the pins of a session's save. In other cases nothing happens.
-use Rattle.std.specs.Prelude.{ℕ, ◌+◌, ℤ, pos, negsuc, Bool, true, false, ◌&&◌, ◌||◌, not, List, [], ◌∷◌, map, Option, Some, None, is_some, slice_get, option_and_then, ◌==◌, if◌then◌else◌}
+use Rattle.std.specs.Prelude.{ℕ, Bool, false, ◌||◌, List, [], ◌∷◌, map, Option, Some, None, is_some, ◌==◌, if◌then◌else◌}
 use Rattle.sl_base.specs.Sounds.{Sound}
 use Rattle.sl_commands.specs.declared.Mode.{Mode}
 use Rattle.sl_commands.specs.declared.Mode.TheVariants.{Recording}
 use Rattle.sl_commands.specs.declared.Target.{Target}
-use Rattle.sl_commands.specs.declared.Target.TheVariants.{One, All}
-use Rattle.sl_commands.specs.declared.Reply.{Reply}
-use Rattle.sl_commands.specs.declared.What.{What}
-use Rattle.sl_commands.specs.declared.What.TheVariants.{Save as OfLoop, Session as OfSession}
 use Rattle.sl_commands.specs.declared.StripSettings.{StripSettings}
 use Rattle.sl_commands.specs.Settings.{LooperSettings}
 use Rattle.looper_rules.specs.Layers.{Layer, unmarked, with_current, current_list}

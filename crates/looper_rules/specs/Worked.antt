@@ -1,6 +1,6 @@
 -- Short words for worked runs: what comes in, in 16-bit samples and timed commands, and what is left, in layers and loops.
 -- Unless a run says otherwise, all controls have their first values, and there are 4096 chunks.
-use Rattle.std.specs.Prelude.{ℕ, zero, suc, ◌+◌, pos, List, [], ◌∷◌, map, Option, Some, None}
+use Rattle.std.specs.Prelude.{ℕ, suc, pos, List, [], ◌∷◌, map, Option, Some, None}
 use Rattle.sl_base.specs.Arithmetic.{widened}
 use Rattle.sl_base.specs.Sounds.{Sound, both}
 use Rattle.sl_commands.specs.declared.Verb.{Verb}
@@ -13,7 +13,7 @@ use Rattle.sl_commands.specs.declared.Control.{Control}
 use Rattle.sl_commands.specs.declared.Entry.{Entry}
 use Rattle.sl_commands.specs.declared.Reply.{Reply}
 use Rattle.sl_commands.specs.declared.What.TheVariants.{Value, Save as OfLoop}
-use Rattle.sl_commands.specs.Settings.{default_strip, default_settings}
+use Rattle.sl_commands.specs.Settings.{LooperSettings, default_strip, default_settings}
 use Rattle.looper_rules.specs.Layers.{Cell, Layer, contents, old_cells, fresh_cell}
 use Rattle.looper_rules.specs.Stack.{Stack, LastWrite}
 use Rattle.looper_rules.specs.Loop.{Controls, Loop, new_deck}
@@ -61,6 +61,10 @@ value_reply seq k control value = record { sender = 0; seq = seq; index = pos k;
 abbrev pub save_reply : ℕ → ℕ → ℕ → Reply
 save_reply seq k outcome = record { sender = 0; seq = seq; index = pos k; what = OfLoop; value = pos outcome }
 
+-- the save of a loop: its number, the loop's index, its name, the settings and the list
+abbrev pub saved : ℕ → ℕ → List ℕ → LooperSettings → List Sound → Save
+saved number k name settings list = record { number = number; target = One k; name = name; settings = settings; lists = list ∷ [] }
+
 -- the run of these commands over an input, from one new loop
 abbrev pub one_loop_run : List (ℕ × Command) → List Sound → Ran
 one_loop_run cs input = run (journal cs) input (new_looper 1 4096)
@@ -80,6 +84,10 @@ open_layer cells below end seams = record { cells = cells; base = contents below
 -- these frames, all fresh
 abbrev pub fresh_cells : List Sound → List (Cell Sound)
 fresh_cells list = map fresh_cell list
+
+-- the layer of a Recording: its frames, its end and its seams
+abbrev pub recorded_layer : List Sound → ℕ → ℕ → Layer Sound
+recorded_layer list end seams = record { cells = fresh_cells list; base = []; base_seams = 0; cycle = 0; end = end; seams = seams }
 
 -- layers, redo layers and tape length, with no pin and no run
 abbrev pub stack : List (Layer Sound) → List (Layer Sound) → ℕ → Stack Sound

@@ -12,9 +12,23 @@
 #![tactic(auto)]
 
 mod one_loop;
+mod runs_of_controls;
+mod runs_of_lengths;
+mod runs_of_loops;
 mod runs_of_one_loop;
 
 pub use one_loop::OneMode;
+pub use runs_of_controls::{
+    a_gain_moves_by_steps, a_long_press_ends_its_overdub, a_recording_waits_for_its_threshold,
+    a_short_press_leaves_its_overdub_on, the_dry_gain_moves_by_steps,
+};
+pub use runs_of_lengths::{
+    a_multiply_ends_at_once, a_rounded_multiply_ends_with_its_cycle,
+    an_insert_goes_before_the_first_frame, an_insert_goes_before_the_last_frame,
+};
+pub use runs_of_loops::{
+    a_save_holds_its_list, the_last_chunk_goes_to_the_first_loop, two_loops_wait_for_one_cycle,
+};
 pub use runs_of_one_loop::{
     a_loud_negative_overdub_is_clamped, a_loud_overdub_is_clamped,
     a_recording_of_length_0_is_no_layer, a_recording_repeats, an_overdub_goes_backward,
