@@ -2,6 +2,7 @@
 -- Senders are 0 for OSC, 1 for MIDI and 2 for the saver. Releases come from the saver alone, and it sends nothing else.
 -- A list of entries is stamped where frames never fall, and each sender's numbers are 0, 1, 2 and so on in order.
 use Rattle.std.specs.Prelude.{ℕ, Bool, true, ◌&&◌, ◌==◌, nat_le, nat_lt, List, [], ◌∷◌, ◌++◌, length, filter}
+use Rattle.std.specs.List.{list_all}
 use Rattle.sl_commands.specs.declared.command.Command.{Command}
 use Rattle.sl_commands.specs.declared.command.Command.TheVariants.{Release}
 use Rattle.sl_commands.specs.declared.entry.Entry.{Entry}
@@ -18,8 +19,7 @@ is_valid loops e = is_sender e.sender e.command && is_allowed loops e.command
 
 -- each entry is valid
 abbrev pub are_valid : ℕ → List Entry → Bool
-are_valid loops [] = true
-are_valid loops (e ∷ es) = is_valid loops e && are_valid loops es
+are_valid loops es = list_all (is_valid loops) es
 
 -- the entries of one sender, in order
 abbrev pub entries_of : ℕ → List Entry → List Entry
