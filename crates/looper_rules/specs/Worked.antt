@@ -1,18 +1,18 @@
 -- Short words for worked runs: what comes in, in 16-bit samples and timed commands, and what is left, in layers and loops.
 -- Unless a run says otherwise, all controls have their first values, and there are 4096 chunks.
-use Rattle.std.specs.Prelude.{ℕ, suc, pos, List, [], ◌∷◌, map, Option, Some, None}
+use Rattle.std.specs.Prelude.{ℕ, suc, pos, negsuc, List, [], ◌∷◌, map, Option, Some, None}
 use Rattle.sl_base.specs.Arithmetic.{widened}
 use Rattle.sl_base.specs.Sounds.{Sound, both}
 use Rattle.sl_commands.specs.declared.Verb.{Verb}
 use Rattle.sl_commands.specs.declared.Mode.{Mode}
 use Rattle.sl_commands.specs.declared.How.{How}
-use Rattle.sl_commands.specs.declared.Target.TheVariants.{One}
+use Rattle.sl_commands.specs.declared.Target.TheVariants.{One, All}
 use Rattle.sl_commands.specs.declared.Command.{Command}
 use Rattle.sl_commands.specs.declared.Command.TheVariants.{Hit, Release}
 use Rattle.sl_commands.specs.declared.Control.{Control}
 use Rattle.sl_commands.specs.declared.Entry.{Entry}
 use Rattle.sl_commands.specs.declared.Reply.{Reply}
-use Rattle.sl_commands.specs.declared.What.TheVariants.{Value, Save as OfLoop}
+use Rattle.sl_commands.specs.declared.What.TheVariants.{Value, Save as OfLoop, Session as OfSession}
 use Rattle.sl_commands.specs.Settings.{LooperSettings, default_strip, default_settings}
 use Rattle.looper_rules.specs.Layers.{Cell, Layer, contents, old_cells, fresh_cell}
 use Rattle.looper_rules.specs.Stack.{Stack, LastWrite}
@@ -60,6 +60,14 @@ value_reply seq k control value = record { sender = 0; seq = seq; index = pos k;
 -- the reply to the save of a loop: the seq of the save, the loop's index, and how it ended
 abbrev pub save_reply : ℕ → ℕ → ℕ → Reply
 save_reply seq k outcome = record { sender = 0; seq = seq; index = pos k; what = OfLoop; value = pos outcome }
+
+-- the reply to the save of a session: the seq of the save, and how it ended
+abbrev pub session_reply : ℕ → ℕ → Reply
+session_reply seq outcome = record { sender = 0; seq = seq; index = negsuc 1; what = OfSession; value = pos outcome }
+
+-- the save of a session: its number, its name, the settings and the lists
+abbrev pub session_saved : ℕ → List ℕ → LooperSettings → List (List Sound) → Save
+session_saved number name settings lists = record { number = number; target = All; name = name; settings = settings; lists = lists }
 
 -- the save of a loop: its number, the loop's index, its name, the settings and the list
 abbrev pub saved : ℕ → ℕ → List ℕ → LooperSettings → List Sound → Save

@@ -27,7 +27,8 @@ pub use runs_of_lengths::{
     an_insert_goes_before_the_first_frame, an_insert_goes_before_the_last_frame,
 };
 pub use runs_of_loops::{
-    a_save_holds_its_list, the_last_chunk_goes_to_the_first_loop, two_loops_wait_for_one_cycle,
+    a_save_holds_its_list, a_session_is_saved_whole, the_last_chunk_goes_to_the_first_loop,
+    two_loops_wait_for_one_cycle,
 };
 pub use runs_of_one_loop::{
     a_loud_negative_overdub_is_clamped, a_loud_overdub_is_clamped,

@@ -6,12 +6,12 @@ ghost use Rattle.sl_commands.specs.declared.Verb.TheVariants.{Rec, Overdub, Mute
 ghost use Rattle.sl_commands.specs.declared.Mode.TheVariants.{Recording, Playing, Overdubbing, Muted};
 ghost use Rattle.sl_commands.specs.declared.How.TheVariants.{Forward, Append};
 ghost use Rattle.sl_commands.specs.declared.Control.TheVariants.{Quantize, State, LoopLen, Waiting, Refused, FreeTime, SyncSource};
-ghost use Rattle.sl_commands.specs.declared.Target.TheVariants.{One};
-ghost use Rattle.sl_commands.specs.declared.Command.TheVariants.{Set, SetGlobal, Get, SaveLoop, Release};
+ghost use Rattle.sl_commands.specs.declared.Target.TheVariants.{One, All};
+ghost use Rattle.sl_commands.specs.declared.Command.TheVariants.{Set, SetGlobal, Get, SaveLoop, SaveSession, Release};
 ghost use Rattle.sl_commands.specs.Settings.{default_globals, default_strip, default_settings};
 ghost use Rattle.looper_rules.specs.Layers.{old_cells};
 ghost use Rattle.looper_rules.specs.Run.{run, start};
-ghost use Rattle.looper_rules.specs.Worked.{sample, samples, hit, journal, new_looper, one_loop_run, one_loop_left, gave, value_reply, save_reply, saved, layer, open_layer, recorded_layer, fresh_cells, stack, last_write, loop_in, first_controls, track};
+ghost use Rattle.looper_rules.specs.Worked.{sample, samples, hit, journal, new_looper, one_loop_run, one_loop_left, gave, value_reply, save_reply, saved, session_reply, session_saved, layer, open_layer, recorded_layer, fresh_cells, stack, last_write, loop_in, first_controls, track};
 
 /// A mute of one loop and an overdub of another wait for the first one's cycle.
 pub fn two_loops_wait_for_one_cycle()
@@ -46,6 +46,17 @@ pub fn a_save_holds_its_list()
         (samples (0 ∷ 0 ∷ 0 ∷ 0 ∷ 1 ∷ 2 ∷ 3 ∷ 4 ∷ 1 ∷ 0 ∷ 0 ∷ 0 ∷ 0 ∷ 0 ∷ []))
         (save_reply 5 0 2 ∷ save_reply 2 0 0 ∷ value_reply 6 0 LoopLen 3 ∷ []) (take ∷ [])
         (record (one_loop_left (track recording)) { saves = 1 }) }
+{}
+
+/// A session is saved with its settings and all lists, and its release answers it.
+pub fn a_session_is_saved_whole()
+    ensures { let phrase = samples (1 ∷ 2 ∷ 3 ∷ 4 ∷ []) in
+        let settings = record (default_settings 48000 1) { strips = record default_strip { length = 4; cycle = 4 } ∷ [] } in
+        one_loop_run
+        ((0, hit 0 Rec) ∷ (4, hit 0 Rec) ∷ (4, SaveSession (codes "set1")) ∷ (4, Release All 0) ∷ [])
+        (samples (1 ∷ 2 ∷ 3 ∷ 4 ∷ 5 ∷ 6 ∷ 7 ∷ 8 ∷ []))
+        ≡ gave (samples (0 ∷ 0 ∷ 0 ∷ 0 ∷ 1 ∷ 2 ∷ 3 ∷ 4 ∷ [])) (session_reply 2 0 ∷ []) (session_saved 0 (codes "set1") settings (phrase ∷ []) ∷ [])
+        (record (one_loop_left (track (loop_in Playing 0 (stack (layer phrase 4 4 2 ∷ []) [] 4)))) { saves = 1 }) }
 {}
 
 /// Two loops of 4094 frames overdub two frames each, and then want the last chunk. The first one gets it. The second
