@@ -7,6 +7,7 @@
 --   That loop has to be running, in Playing, Overdubbing, Multiplying, Inserting, Replacing, Substituting, Muted or
 --   OneShot; where it isn't, each frame is a boundary.
 -- All faces are those of the moment after the entries of the frame.
+-- "Boundaries" in docs/rules.md.
 use Rattle.std.specs.Prelude.{ℕ, zero, suc, ◌/◌, ◌%◌, max, ℤ, pos, negsuc, Bool, true, false, ◌||◌, not, List, Option, Some, None, slice_get, ◌==◌, if◌then◌else◌}
 use Rattle.sl_commands.specs.declared.Mode.{Mode}
 use Rattle.sl_commands.specs.declared.Mode.TheVariants.{Playing, Overdubbing, Multiplying, Inserting, Replacing, Substituting, Muted, OneShot}

@@ -8,6 +8,7 @@
 -- - in the other modes the mode is Playing.
 -- The stop of Multiplying is reached where pos is a multiple of the cycle, that of Inserting where the length less the
 -- base's length is one.
+-- "Closing" in docs/rules.md.
 use Rattle.std.specs.Prelude.{ℕ, ◌-◌, ◌%◌, Bool, true, false, List, [], Option, Some, None, length, take, nat_lt, nat_le, ◌==◌, if◌then◌else◌}
 use Rattle.sl_commands.specs.declared.Mode.{Mode}
 use Rattle.sl_commands.specs.declared.Mode.TheVariants.{Off, Recording, Playing, Multiplying, Inserting}

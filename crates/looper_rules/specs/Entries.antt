@@ -4,6 +4,7 @@
 -- All loops are taken in index order, and the selected loop is that of selected_loop_num at that moment.
 -- A reply carries the sender and seq of the get or save that it answers, and the index of the loop, or -2 for the looper's
 -- own controls and for a session. One entry gives at most one reply, and makes at most one save.
+-- "Entries and replies" in docs/rules.md.
 use Rattle.std.specs.Prelude.{ℕ, ◌+◌, ℤ, pos, negsuc, unsigned_abs, Bool, true, false, List, [], ◌∷◌, length, map, Option, Some, None, slice_get, option_map, if◌then◌else◌}
 use Rattle.std.specs.Option.{option_and_then}
 use Rattle.sl_commands.specs.declared.Control.{Control}

@@ -1,6 +1,7 @@
 -- One frame of the looper: the entries of the frame apply in order; then all faces are taken, and in index order each
 -- verb that waits, and has a boundary by these faces, stops waiting and acts; then in index order each loop's gain moves
 -- toward wet, and the loop has its frame; then the dry gain moves toward dry, and the output is the clamped sum.
+-- "One frame of the looper" in docs/rules.md.
 use Rattle.std.specs.Prelude.{ℕ, List, map, if◌then◌else◌}
 use Rattle.sl_base.specs.Sounds.{Sound, scaled_sound}
 use Rattle.sl_commands.specs.declared.Face.{Face}

@@ -4,6 +4,7 @@
 -- current layer is open. In Off there is no layer. Rounding says that a multiply or an insert goes on to its stop.
 -- The face of a loop is what its verbs, its boundary and its values see of it: no frames.
 -- The count of what was refused stays at 2147483647 once it is there.
+-- "The loop" in docs/rules.md.
 use Rattle.std.specs.Prelude.{ℕ, ◌+◌, min, Bool, true, false, not, length, Option, None, is_some}
 use Rattle.sl_commands.specs.declared.Verb.{Verb}
 use Rattle.sl_commands.specs.declared.Mode.{Mode}

@@ -11,6 +11,7 @@
 --   the layer closes at its stop. In Playing, Overdubbing, Replacing, Substituting, Muted and OneShot pos goes one on in
 --   its direction, and round at the list's border: then no run goes on, and OneShot becomes Muted.
 --   Off, WaitStart and Paused don't advance.
+-- "One frame of a loop" in docs/rules.md.
 use Rattle.std.specs.Prelude.{ℕ, ◌+◌, ◌-◌, Bool, true, false, List, slice_index_or, nat_le, ◌==◌, if◌then◌else◌}
 use Rattle.sl_base.specs.Sounds.{Sound, silence, summed, clamped_sound, scaled_sound, loudness}
 use Rattle.sl_commands.specs.declared.Mode.{Mode}

@@ -1,6 +1,7 @@
 -- A looper has its rate, its number of chunks, its own controls, the dry gain, its tracks, and how many saves there were.
 -- A track is a loop with its gain and, while a save pins it, who asked for that save.
 -- What is done to all loops is done in index order, and the chunks that a loop leaves free pass on to the next.
+-- "The looper" in docs/rules.md.
 use Rattle.std.specs.Prelude.{ℕ, zero, suc, ◌+◌, ◌-◌, Bool, List, [], ◌∷◌, map, Option}
 use Rattle.sl_base.specs.Sounds.{Sound}
 use Rattle.sl_commands.specs.declared.Target.{Target}

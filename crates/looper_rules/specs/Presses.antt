@@ -3,6 +3,7 @@
 -- The verbs with a mode are the six writing verbs, `mute` (Muted), `pause` (Paused) and `oneshot` (OneShot).
 -- Giving v: where quantize is 0, or v is one of undo, redo, undo_all, redo_all, mute_on, mute_off and pause, v acts at
 -- once and a verb that waits stays. Otherwise v becomes the verb that waits, in place of another.
+-- "Presses" in docs/rules.md.
 use Rattle.std.specs.Prelude.{ℕ, ◌-◌, Bool, true, false, ◌&&◌, ◌||◌, Option, Some, None, nat_le, ◌==◌, if◌then◌else◌}
 use Rattle.sl_commands.specs.declared.Verb.{Verb}
 use Rattle.sl_commands.specs.declared.Verb.TheVariants.{MuteOn, MuteOff, Pause, Undo, Redo, UndoAll, RedoAll}

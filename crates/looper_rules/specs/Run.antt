@@ -4,6 +4,7 @@
 -- Before each frame the entries that are due apply: those at the head of the list whose frame isn't later. Entries behind
 -- the last frame apply after it, in order, as at the frame behind the last.
 -- A run gives the output, the replies in the order in which they come, the saves, and the last looper.
+-- "The run" in docs/rules.md.
 use Rattle.std.specs.Prelude.{ℕ, ◌+◌, List, [], ◌∷◌, ◌++◌, length, Option, None, nat_le, option_to_list, if◌then◌else◌}
 use Rattle.sl_base.specs.Sounds.{Sound}
 use Rattle.sl_commands.specs.declared.Mode.TheVariants.{Off, Paused}

@@ -6,6 +6,7 @@
 -- moment. In the settings a loop in Recording has its length as its cycle.
 -- A release of loop i takes the pin of a loop's save away and answers that save with its outcome. A release of all loops
 -- does so with the pins of a session's save. In other cases nothing happens.
+-- "Saves" in docs/rules.md.
 use Rattle.std.specs.Prelude.{ℕ, Bool, false, ◌||◌, List, [], ◌∷◌, map, Option, Some, None, is_some, ◌==◌, if◌then◌else◌}
 use Rattle.sl_base.specs.Sounds.{Sound}
 use Rattle.sl_commands.specs.declared.Mode.{Mode}

@@ -3,6 +3,7 @@
 -- Starting another writing verb: the loop opens a copy of its list; if that isn't refused, the mode is the verb's, and
 -- pos and direction stay. A refusal leaves the mode, and is counted.
 -- Leaving WaitStart makes the mode Off where there is no layer, else Playing.
+-- "Starting" in docs/rules.md.
 use Rattle.std.specs.Prelude.{ℕ, true, false, List, [], ◌∷◌, nat_lt, if◌then◌else◌}
 use Rattle.sl_commands.specs.declared.Mode.{Mode}
 use Rattle.sl_commands.specs.declared.Mode.TheVariants.{Off, WaitStart, Recording, Playing}

@@ -5,6 +5,7 @@
 -- 65534, and, before a place or at the end, the list has fewer than 16777216 frames.
 -- Extending appends the base, not fresh, and adds its seams. It fits where the list then has at most 16777216 frames
 -- and the total seams are at most 65536.
+-- "Writing" in docs/rules.md.
 use Rattle.std.specs.Prelude.{ℕ, ◌+◌, ◌-◌, Bool, true, false, ◌&&◌, ◌||◌, List, [], ◌∷◌, ◌++◌, Some, None, is_some, slice_get, slice_set, insert, nat_lt, nat_le, if◌then◌else◌}
 use Rattle.sl_commands.specs.declared.How.{How}
 use Rattle.sl_commands.specs.declared.How.TheVariants.{Forward, Backward, Insert, Append}
