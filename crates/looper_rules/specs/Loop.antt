@@ -100,4 +100,19 @@ refused_once l = record l { refused = min (l.refused + 1) max_value }
 
 -- what is seen of a loop
 abbrev pub face_of : {A : Type 0} → Loop A → Face
-face_of l = record { mode = l.deck.mode; rounding = l.deck.rounding; pos = l.deck.pos; backward = l.deck.backward; length = length_of l; cycle = cycle_of l; base = base_length_of l; layers = length l.stack.layers; redo = length l.stack.redo; waiting = l.deck.waiting; press = l.deck.press; refused = l.refused; pinned = is_some l.stack.pin }
+face_of l =
+    record {
+      mode = l.deck.mode;
+      rounding = l.deck.rounding;
+      pos = l.deck.pos;
+      backward = l.deck.backward;
+      length = length_of l;
+      cycle = cycle_of l;
+      base = base_length_of l;
+      layers = length l.stack.layers;
+      redo = length l.stack.redo;
+      waiting = l.deck.waiting;
+      press = l.deck.press;
+      refused = l.refused;
+      pinned = is_some l.stack.pin;
+    }

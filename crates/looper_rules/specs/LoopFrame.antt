@@ -95,7 +95,8 @@ fits reach l = write_fits reach (how_in l.deck.mode l.deck.backward) l.deck.pos 
 
 -- the stack with the input written
 abbrev pub with_input : Sound → Loop Sound → Stack Sound
-with_input x l = written (how_in l.deck.mode l.deck.backward) l.deck.pos (new_frame l.deck.mode l.controls.feedback (sound_at (current_list l.stack.layers) l.deck.pos) x) l.stack
+with_input x l =
+    written (how_in l.deck.mode l.deck.backward) l.deck.pos (new_frame l.deck.mode l.controls.feedback (sound_at (current_list l.stack.layers) l.deck.pos) x) l.stack
 
 -- whether going on in this direction from a place wraps around in a list of this length
 abbrev pub wraps : Bool → ℕ → ℕ → Bool
@@ -119,7 +120,8 @@ wrapped_mode mode = mode
 
 -- the loop one place on, by whether it wraps around
 abbrev pub goes_on : {A : Type 0} → Bool → Loop A → Loop A
-goes_on true l = with_stack (run_broken l.stack) (in_mode_at (wrapped_mode l.deck.mode) (wrapped_place l.deck.backward (length_of l)) l)
+goes_on true l =
+    with_stack (run_broken l.stack) (in_mode_at (wrapped_mode l.deck.mode) (wrapped_place l.deck.backward (length_of l)) l)
 goes_on false l = at_place (next_place l.deck.backward l.deck.pos) l
 
 -- the loop closed, where it rounds and is at its stop

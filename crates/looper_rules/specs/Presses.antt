@@ -61,7 +61,10 @@ released_long false verb reach l = with_press None l
 
 -- what `up` does at a frame
 abbrev pub released : {A : Type 0} → Verb → ℕ → ℕ → ℕ → Loop A → Loop A
-released verb frame long_press reach l = if is_press_of verb l.deck.press then released_long (is_long frame long_press l.deck.press && is_mode_of verb l.deck.mode) verb reach l else l
+released verb frame long_press reach l =
+    if is_press_of verb l.deck.press
+    then released_long (is_long frame long_press l.deck.press && is_mode_of verb l.deck.mode) verb reach l
+    else l
 
 -- the waiting verb acts, where there is one
 abbrev pub waiting_acts_from : {A : Type 0} → Option Verb → ℕ → Loop A → Loop A

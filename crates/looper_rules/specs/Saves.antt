@@ -33,7 +33,12 @@ unmarked_layer l = record l { cells = unmarked l.cells }
 
 -- the stack pinned
 abbrev pub pinned : {A : Type 0} → Stack A → Stack A
-pinned s = record s { layers = with_current unmarked_layer s.layers; pin = Some (record { tape = s.tape; list = current_list s.layers }); run = None }
+pinned s =
+    record s {
+      layers = with_current unmarked_layer s.layers;
+      pin = Some (record { tape = s.tape; list = current_list s.layers });
+      run = None;
+    }
 
 -- the stack without its pin
 abbrev pub unpinned : {A : Type 0} → Stack A → Stack A

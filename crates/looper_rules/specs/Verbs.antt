@@ -51,7 +51,10 @@ is_mode_of _ _ = false
 
 -- the column for a verb in a mode
 abbrev pub column : Verb → Mode → Column
-column verb mode = if is_off mode then InOff else if is_writing mode then if is_mode_of verb mode then InItsOwn else InAnother else Elsewhere
+column verb mode =
+    if is_off mode then InOff
+    else if is_writing mode then if is_mode_of verb mode then InItsOwn else InAnother
+    else Elsewhere
 
 -- what is done unless the mode is Off
 abbrev pub unless_off : {A : Type 0} → Mode → (Loop A → Loop A) → Loop A → Loop A
