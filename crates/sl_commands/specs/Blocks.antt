@@ -4,8 +4,9 @@
 -- The save of a loop has that loop as target and one list, of its index. The save of a session has all loops as target,
 -- and each index in it is below the number of loops in its settings.
 -- Saves are numbered from 0 in the order of their entries, and the blocks of one stand before those of the next.
-use Rattle.std.specs.Prelude.{ℕ, ◌+◌, ◌%◌, Bool, true, false, ◌&&◌, ◌||◌, ◌==◌, nat_le, nat_lt, cond, List, [], ◌∷◌, ◌++◌, length, Option, Some, None, is_some}
+use Rattle.std.specs.Prelude.{◌≡◌, ◌<◌, ℕ, ◌+◌, ◌%◌, Bool, true, false, ◌&&◌, ◌||◌, ◌==◌, nat_le, nat_lt, cond, List, [], ◌∷◌, ◌++◌, length, Option, Some, None, is_some}
 use Rattle.std.specs.Bool.{then_some}
+use Rattle.std.specs.List.{list_all}
 use Rattle.sl_base.specs.Sounds.{Sound}
 use Rattle.sl_commands.specs.declared.command.Target.{Target}
 use Rattle.sl_commands.specs.declared.command.Target.TheVariants.{One, All, Selected}
@@ -111,11 +112,27 @@ save_of (Head save name target settings) = save
 save_of (Part save index frames) = save
 save_of (End save) = save
 
+-- a save with this target may have this name
+abbrev pub fits_target : Target → List ℕ → Bool
+fits_target All name = nat_le (length name) 48
+fits_target _ name = true
+
 -- the head of a session's save has a session's name
 abbrev pub fits_name : Block → Bool
-fits_name (Head save name All settings) = nat_le (length name) 48
+fits_name (Head save name target settings) = fits_target target name
 fits_name _ = true
 
 -- a block may follow those sent, on a ring for the saves below the bound
 abbrev pub may_follow : List Block → Block → ℕ → Bool
 may_follow sent b bound = is_some (place_of (sent ++ b ∷ [])) && nat_lt (save_of b) bound && fits_name b
+
+-- each block may follow those before it
+abbrev pub may_all_follow : List Block → List Block → ℕ → Bool
+may_all_follow sent [] bound = true
+may_all_follow sent (b ∷ bs) bound = may_follow sent b bound && may_all_follow (sent ++ b ∷ []) bs bound
+
+-- a save is one: its target has as many lists, none is too long, and a session's name leaves room for its files' names
+pub record IsSave (target : Target) (name : List ℕ) (loops : ℕ) (lists : List (List Sound)) : Type 0 where
+  pub named : fits_target target name ≡ true
+  pub each : (k : ℕ) → k < length lists → has_list target loops (first_index target + k) ≡ true
+  pub short : list_all (λ frames. nat_le (length frames) max_length) lists ≡ true
