@@ -1,5 +1,5 @@
 -- What stamped entries are: the test goes entry by entry, the rule speaks of the whole list.
-use Rattle.std.proofs.Common.{◌≡◌, ◌≢◌, ℕ, ◌+◌, ◌≤◌, Bool, true, false, ◌&&◌, ◌==◌, nat_le, cond, List, [], ◌∷◌, ◌++◌, length, filter, refl, sym, ◌∙◌, ap, subst, arith, append_assoc, length-append, Decides}
+use Rattle.std.proofs.Common.{◌≡◌, ℕ, ◌+◌, Bool, true, false, ◌&&◌, ◌==◌, cond, List, [], ◌∷◌, ◌++◌, length, refl, sym, ◌∙◌, ap, subst, arith, append_assoc, length-append}
 use Rattle.std.proofs.Math.Bool.{and_assoc, and-true}
 use Rattle.std.proofs.lemmas.Bool.{leb-true, le-leb, eqb-true, eq-eqb}
 use Rattle.std.proofs.lemmas.List.{append-nil}
@@ -17,8 +17,8 @@ pub are_stamped_behind-append : (before xs ys : List Entry) → are_stamped_behi
 are_stamped_behind-append before [] ys = ap (λ b. are_stamped_behind b ys) (sym (append-nil before))
 are_stamped_behind-append before (x ∷ xs) ys =
     ap (λ b. may_be_next before x && b) (are_stamped_behind-append (before ++ x ∷ []) xs ys)
-      ∙ ap (λ b. may_be_next before x && (are_stamped_behind (before ++ x ∷ []) xs && are_stamped_behind b ys)) (append_assoc before (x ∷ []) xs)
-      ∙ sym (and_assoc (may_be_next before x) (are_stamped_behind (before ++ x ∷ []) xs) (are_stamped_behind (before ++ x ∷ xs) ys))
+    ∙ ap (λ b. may_be_next before x && (are_stamped_behind (before ++ x ∷ []) xs && are_stamped_behind b ys)) (append_assoc before (x ∷ []) xs)
+    ∙ sym (and_assoc (may_be_next before x) (are_stamped_behind (before ++ x ∷ []) xs) (are_stamped_behind (before ++ x ∷ xs) ys))
 
 -- entries are stamped with one more where they are without it and it may be next
 pub are_stamped-push : (es : List Entry) (e : Entry) → are_stamped (es ++ e ∷ []) ≡ (are_stamped es && may_be_next es e)
@@ -42,9 +42,9 @@ count-push sender before e =
 stamped_frames : (before es : List Entry) → are_stamped_behind before es ≡ true → FramesNeverFall (last_frame before) es
 stamped_frames before [] is = tt
 stamped_frames before (e ∷ es) is =
-    let halves = both _ _ is in
-    ( leb-true _ _ ((both _ _ halves.0).0)
-    , subst (λ (f : ℕ). FramesNeverFall f es) (last_frame-push 0 before e) (stamped_frames (before ++ e ∷ []) es halves.1)
+    let halves = both _ _ is in (
+      leb-true _ _ ((both _ _ halves.0).0),
+      subst (λ (f : ℕ). FramesNeverFall f es) (last_frame-push 0 before e) (stamped_frames (before ++ e ∷ []) es halves.1),
     )
 
 -- an entry's number, and those behind it, where this sender is its own or another
@@ -63,8 +63,8 @@ stamped_numbers before [] sender is = tt
 stamped_numbers before (e ∷ es) sender is =
     let halves = both _ _ is in
     numbers_step sender before e es (e.sender == sender)
-      (λ own. eqb-true _ _ ((both _ _ halves.0).1) ∙ ap (λ s. length (entries_of s before)) (eqb-true e.sender sender own))
-      (subst (λ (n : ℕ). AreNumberedFrom n (entries_of sender es)) (count-push sender before e) (stamped_numbers (before ++ e ∷ []) es sender halves.1))
+    (λ own. eqb-true _ _ ((both _ _ halves.0).1) ∙ ap (λ s. length (entries_of s before)) (eqb-true e.sender sender own))
+    (subst (λ (n : ℕ). AreNumberedFrom n (entries_of sender es)) (count-push sender before e) (stamped_numbers (before ++ e ∷ []) es sender halves.1))
 
 -- the other way for an entry's number
 numbers_back :
@@ -92,16 +92,16 @@ stamped_from :
 stamped_from before [] frames numbers = refl
 stamped_from before (e ∷ es) frames numbers =
     let later : are_stamped_behind (before ++ e ∷ []) es ≡ true =
-        stamped_from (before ++ e ∷ []) es
-          (subst (λ (f : ℕ). FramesNeverFall f es) (sym (last_frame-push 0 before e)) frames.1)
-          (λ s. subst (λ (n : ℕ). AreNumberedFrom n (entries_of s es)) (sym (count-push s before e)) (numbers_back s before e es (e.sender == s) (numbers s)))
+    stamped_from (before ++ e ∷ []) es
+    (subst (λ (f : ℕ). FramesNeverFall f es) (sym (last_frame-push 0 before e)) frames.1)
+    (λ s. subst (λ (n : ℕ). AreNumberedFrom n (entries_of s es)) (sym (count-push s before e)) (numbers_back s before e es (e.sender == s) (numbers s)))
     in
-    rw
-      ( le-leb (last_frame before) e.frame frames.0
-      , eq-eqb e.seq (length (entries_of e.sender before)) (own_number before e es (e.sender == e.sender) (eq-eqb e.sender e.sender refl) (numbers e.sender))
-      , later
-      )
-      refl
+    rw (
+      le-leb (last_frame before) e.frame frames.0,
+      eq-eqb e.seq (length (entries_of e.sender before)) (own_number before e es (e.sender == e.sender) (eq-eqb e.sender e.sender refl) (numbers e.sender)),
+      later,
+    )
+    refl
 
 -- the test says what the rule says
 pub stamped_is_in_order : (es : List Entry) → are_stamped es ≡ true → IsStamped es
