@@ -1,11 +1,11 @@
 -- Settings with all controls as they begin.
-use Rattle.std.proofs.Common.{◌≡◌, ℕ, zero, suc, Bool, true, ◌≤◌, ◌<◌, refl, List, replicate, length, arith, ap, ◌∙◌}
+use Rattle.std.proofs.Common.{◌≡◌, ℕ, zero, suc, true, ◌<◌, refl, List, replicate, length, arith, ap, ◌∙◌}
 use Rattle.std.proofs.Math.Dec.{leb-zero}
-use Rattle.std.proofs.lemmas.Bool.{lt-ltb, leb-true}
+use Rattle.std.proofs.lemmas.Bool.{lt-ltb}
 use Rattle.std.proofs.lemmas.List.{length-replicate}
 use Rattle.sl_commands.specs.declared.settings.Globals.{Globals}
 use Rattle.sl_commands.specs.declared.settings.StripSettings.{StripSettings}
-use Rattle.sl_commands.specs.Settings.{LooperSettings, default_strip, default_globals, are_strips, are_globals, is_rate, is_loop_count, are_settings, default_settings}
+use Rattle.sl_commands.specs.Settings.{default_strip, default_globals, are_strips, are_globals, is_rate, is_loop_count, are_settings, default_settings}
 
 -- empty loops are loops
 pub are_strips-replicate : (loops : ℕ) → are_strips (replicate loops default_strip) ≡ true
@@ -30,9 +30,9 @@ pub are_default_settings :
     (rate loops : ℕ) (globals : Globals) (strips : List StripSettings) → globals ≡ default_globals → strips ≡ replicate loops default_strip
     → is_rate rate ≡ true → is_loop_count loops ≡ true
     → (loops ≡ length strips) × (are_settings (record { rate = rate; globals = globals; strips = strips }) ≡ true)
-are_default_settings rate loops globals strips same_globals same_strips rated counted =
-    ( rw (same_strips, length-replicate loops default_strip) refl
-    , ap (λ g. are_settings (record { rate = rate; globals = g; strips = strips })) same_globals
-        ∙ ap (λ ss. are_settings (record { rate = rate; globals = default_globals; strips = ss })) same_strips
-        ∙ are_settings-default rate loops rated counted
-    )
+are_default_settings rate loops globals strips same_globals same_strips rated counted = (
+  rw (same_strips, length-replicate loops default_strip) refl,
+  ap (λ g. are_settings (record { rate = rate; globals = g; strips = strips })) same_globals
+      ∙ ap (λ ss. are_settings (record { rate = rate; globals = default_globals; strips = ss })) same_strips
+      ∙ are_settings-default rate loops rated counted,
+)

@@ -180,7 +180,10 @@ fn is_named(control: Control, bytes: &[u8]) -> bool
 fn first_named(bytes: &[u8]) -> Option<Control>
     ensures { result ≡ find (has_control_name bytes.now) controls }
 {
-    CONTROLS.iter().copied().find(|control| is_named(*control, bytes))
+    CONTROLS
+        .iter()
+        .copied()
+        .find(|control| is_named(*control, bytes))
 }
 
 /// The control that has these bytes as its name.

@@ -107,7 +107,11 @@ fn are_globals(loops: u8, globals: &Globals) -> bool
 {
     is_in_range(Control::Dry, globals.dry as i64, loops)
         && is_in_range(Control::SyncSource, globals.sync_source as i64, loops)
-        && is_in_range(Control::SelectedLoopNum, globals.selected_loop_num as i64, loops)
+        && is_in_range(
+            Control::SelectedLoopNum,
+            globals.selected_loop_num as i64,
+            loops,
+        )
         && is_in_range(Control::FadeStep, globals.fade_step as i64, loops)
         && is_in_range(Control::LongPress, globals.long_press as i64, loops)
         && is_in_range(Control::Pulse, globals.pulse as i64, loops)

@@ -1,4 +1,4 @@
-use Rattle.std.proofs.Common.{◌≡◌, ◌≤◌, replicate}
+use Rattle.std.proofs.Common.{◌≡◌, replicate}
 use Rattle.sl_commands.specs.Settings.{default_strip}
 use Rattle.sl_commands.proofs.settings.Settings.with_defaults.Given as goal
 
