@@ -19,6 +19,7 @@ pub mod Saves
 pub mod Entries
 pub mod Frame
 pub mod Run
+pub mod Cuts
 pub mod States
 pub mod Worked
 pub mod OneLoop

@@ -11,12 +11,17 @@
 //! clauses compute or are proved from the definitions. The rules are docs/rules.md, under the same headings.
 #![tactic(auto)]
 
+mod cut_runs;
 mod one_loop;
 mod runs_of_controls;
 mod runs_of_lengths;
 mod runs_of_loops;
 mod runs_of_one_loop;
 
+pub use cut_runs::{
+    a_run_cut_at_a_frame_is_the_run, a_run_cut_between_entries_is_the_run,
+    a_run_goes_on_where_its_first_frames_left_off, entries_to_come_change_nothing_before,
+};
 pub use one_loop::OneMode;
 pub use runs_of_controls::{
     a_gain_moves_by_steps, a_long_press_ends_its_overdub, a_recording_waits_for_its_threshold,
