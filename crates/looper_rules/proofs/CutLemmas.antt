@@ -132,7 +132,7 @@ run_from-no_frames frame es l = ap (λ n. ran_alone (entered n es l)) (add-zero 
 ended_with-joined : (first next : Entered) (out : Sound) (rest : Begun) (last : Entered) → ended_with (begun_before (entered_joined first next) out rest) last ≡ with_entered first (ended_with (begun_before next out rest) last)
 ended_with-joined first next out rest last = simp append_assoc
 
-run_from-due_no_frames : (frame : ℕ) (first next : List Entry) (l : Looper) → run_from frame (first ++ next) [] l ≡ with_entered (entered frame first l) (run_from frame next [] (entered frame first l).looper)
+pub run_from-due_no_frames : (frame : ℕ) (first next : List Entry) (l : Looper) → run_from frame (first ++ next) [] l ≡ with_entered (entered frame first l) (run_from frame next [] (entered frame first l).looper)
 run_from-due_no_frames frame first next l =
     let before = entered frame first l in
     run_from-no_frames frame (first ++ next) l ∙ ap ran_alone (entered-append frame first next l) ∙ ap (with_entered before) (sym (run_from-no_frames frame next before.looper))

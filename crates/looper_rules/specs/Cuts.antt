@@ -1,8 +1,6 @@
 -- A run may be cut into two at any frame, and is then the run of the first frames, followed by that of the rest.
 -- The rest begins at the cut's frame, with the looper and the entries that the first frames left; or, where entries up to
 -- the cut stand in front of those from the cut on, with the looper that the run of the former left, and the latter.
--- An entry stands in a run at its frame, or behind the last frame where that comes first. There it meets the looper that
--- the entries before it left, over the frames before its own.
 -- "The run" in docs/rules.md.
 use Rattle.std.specs.Prelude.{ℕ, ◌+◌, ◌≤◌, List, ◌++◌, length, filter, nat_lt, nat_le}
 use Rattle.std.specs.List.{AllPairs}
@@ -17,15 +15,34 @@ run_from frame es input l = ended (frame + length input) (begun frame es input l
 
 -- what some frames gave, and what the frames behind them gave and left
 abbrev pub continued : Begun → Begun → Begun
-continued first next = record { output = first.output ++ next.output; replies = first.replies ++ next.replies; saves = first.saves ++ next.saves; left = next.left; looper = next.looper }
+continued first next =
+    record {
+      output = first.output ++ next.output;
+      replies = first.replies ++ next.replies;
+      saves = first.saves ++ next.saves;
+      left = next.left;
+      looper = next.looper;
+    }
 
 -- what some frames gave, and what the run behind them gave and left
 abbrev pub followed_by : Begun → Ran → Ran
-followed_by first next = record { output = first.output ++ next.output; replies = first.replies ++ next.replies; saves = first.saves ++ next.saves; looper = next.looper }
+followed_by first next =
+    record {
+      output = first.output ++ next.output;
+      replies = first.replies ++ next.replies;
+      saves = first.saves ++ next.saves;
+      looper = next.looper;
+    }
 
 -- what a run gave, and what the run behind it gave and left
 abbrev pub joined : Ran → Ran → Ran
-joined first next = record { output = first.output ++ next.output; replies = first.replies ++ next.replies; saves = first.saves ++ next.saves; looper = next.looper }
+joined first next =
+    record {
+      output = first.output ++ next.output;
+      replies = first.replies ++ next.replies;
+      saves = first.saves ++ next.saves;
+      looper = next.looper;
+    }
 
 -- these frames behind those that gave and left this, the next having this number
 abbrev pub begun_on : ℕ → Begun → List Sound → Begun

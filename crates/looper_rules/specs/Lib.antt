@@ -20,6 +20,7 @@ pub mod Entries
 pub mod Frame
 pub mod Run
 pub mod Cuts
+pub mod Places
 pub mod States
 pub mod Worked
 pub mod OneLoop

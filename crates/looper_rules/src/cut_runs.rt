@@ -7,6 +7,7 @@ ghost use Rattle.sl_commands.specs.Entries.{are_stamped};
 ghost use Rattle.looper_rules.specs.Looper.{Looper};
 ghost use Rattle.looper_rules.specs.Run.{begun, run};
 ghost use Rattle.looper_rules.specs.Cuts.{run_from, begun_on, run_on, ran_on, with_more_left, FramesNeverFall, entries_before, entries_from};
+ghost use Rattle.looper_rules.specs.Places.{run_around};
 
 /// Whatever the entries are, frames go on with the looper and the entries that the frames before them left.
 pub fn a_run_goes_on_where_its_first_frames_left_off()
@@ -52,4 +53,12 @@ pub fn entries_to_come_change_nothing_before()
     ensures left { (frame : ℕ) → (es more : List Entry) → (xs : List Sound) → (l : Looper) →
         All (λ e. frame + length xs ≤ e.frame) more →
         begun frame (es ++ more) xs l ≡ with_more_left more (begun frame es xs l) }
+{}
+
+/// Of entries whose frames never fall, the run is that of the entries before one, what this one gives at its place, and
+/// the run of those behind it.
+pub fn a_run_cut_at_an_entry_is_the_run()
+    ensures whole { (before : List Entry) → (e : Entry) → (after : List Entry) → (input : List Sound) → (l : Looper) →
+        FramesNeverFall (before ++ e ∷ after) →
+        run (before ++ e ∷ after) input l ≡ run_around before e after input l }
 {}

@@ -17,10 +17,12 @@ mod runs_of_controls;
 mod runs_of_lengths;
 mod runs_of_loops;
 mod runs_of_one_loop;
+mod saved_lists;
 
 pub use cut_runs::{
-    a_run_cut_at_a_frame_is_the_run, a_run_cut_between_entries_is_the_run,
-    a_run_goes_on_where_its_first_frames_left_off, entries_to_come_change_nothing_before,
+    a_run_cut_at_a_frame_is_the_run, a_run_cut_at_an_entry_is_the_run,
+    a_run_cut_between_entries_is_the_run, a_run_goes_on_where_its_first_frames_left_off,
+    entries_to_come_change_nothing_before,
 };
 pub use one_loop::OneMode;
 pub use runs_of_controls::{
@@ -39,4 +41,7 @@ pub use runs_of_one_loop::{
     a_loud_negative_overdub_is_clamped, a_loud_overdub_is_clamped,
     a_recording_of_length_0_is_no_layer, a_recording_repeats, an_overdub_goes_backward,
     undo_and_redo_go_between_two_lists, undo_takes_back_half_an_overdub,
+};
+pub use saved_lists::{
+    a_save_is_what_its_entry_met, no_save_changes_later, saves_are_those_at_their_entries,
 };
