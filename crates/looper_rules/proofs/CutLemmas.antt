@@ -150,8 +150,16 @@ run_from-due frame first next (x ∷ xs) l up_to =
     ∙ ap (λ (all : Entered). let now = framed frame x all.looper in ended last (begun_before all now.output (begun (frame + 1) (later frame next) xs now.looper))) (entered-append frame first (due frame next) l)
     ∙ ended_with-joined before behind now.output rest (entered last rest.left rest.looper)
 
--- entries that all hold something still do once the due ones are gone
-later-all : (P : Entry → Type 0) (frame : ℕ) (es : List Entry) → All P es → All P (later frame es)
+-- what holds of all entries holds of the due ones, and of the later ones
+pub due-all : (P : Entry → Type 0) (frame : ℕ) (es : List Entry) → All P es → All P (due frame es)
+due-all P frame [] all = all
+due-all P frame (e ∷ es) all = by_test (nat_le e.frame frame) (due-all P frame es (All-tail P e es all))
+  where
+    by_test : (b : Bool) → All P (due frame es) → All P (if b then e ∷ due frame es else [])
+    by_test true rest = All-cons P e (due frame es) (All-head P e es all) rest
+    by_test false rest = All-nil P
+
+pub later-all : (P : Entry → Type 0) (frame : ℕ) (es : List Entry) → All P es → All P (later frame es)
 later-all P frame [] all = all
 later-all P frame (e ∷ es) all = by_test (nat_le e.frame frame) (later-all P frame es (All-tail P e es all)) all
   where

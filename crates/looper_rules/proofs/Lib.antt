@@ -1,3 +1,11 @@
 pub mod CutLemmas
 pub mod PlaceLemmas
 pub mod SaveLemmas
+pub mod AskerLemmas
+pub mod PendingLemmas
+pub mod AnswerLemmas
+pub mod ReplyLemmas
+pub mod ComesLemmas
+pub mod OnceLemmas
+pub mod SizeLemmas
+pub mod GetLemmas

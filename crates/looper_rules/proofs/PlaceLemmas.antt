@@ -15,19 +15,19 @@ use Rattle.looper_rules.specs.Places.{given_then, run_around, BeginsWith}
 use Rattle.looper_rules.proofs.CutLemmas.{run_from-due, run_from-due_no_frames, run-cut, run-more, run_from-append, first_is_first, others_never_fall, with_entered}
 
 -- what holds of all of two lists holds of all of the second
-all_right : {A : Type 0} (P : A → Type 0) (xs ys : List A) → All P (xs ++ ys) → All P ys
+pub all_right : {A : Type 0} (P : A → Type 0) (xs ys : List A) → All P (xs ++ ys) → All P ys
 all_right P [] ys all = all
 all_right P (x ∷ xs) ys all = all_right P xs ys (All-tail P x (xs ++ ys) all)
 
 -- of entries whose frames never fall, those in front of one aren't behind it
-before_is_before : (before : List Entry) (e : Entry) (after : List Entry) → FramesNeverFall (before ++ e ∷ after) → All (λ b. b.frame ≤ e.frame) before
+pub before_is_before : (before : List Entry) (e : Entry) (after : List Entry) → FramesNeverFall (before ++ e ∷ after) → All (λ b. b.frame ≤ e.frame) before
 before_is_before [] e after never = All-nil (λ b. b.frame ≤ e.frame)
 before_is_before (b ∷ before) e after never =
     let later_ones = all_right (λ x. b.frame ≤ x.frame) before (e ∷ after) (first_is_first b (before ++ e ∷ after) never) in
     All-cons (λ b. b.frame ≤ e.frame) b before (All-head (λ x. b.frame ≤ x.frame) e after later_ones) (before_is_before before e after (others_never_fall b (before ++ e ∷ after) never))
 
 -- and those behind it aren't before it
-behind_is_behind : (before : List Entry) (e : Entry) (after : List Entry) → FramesNeverFall (before ++ e ∷ after) → All (λ b. e.frame ≤ b.frame) (e ∷ after)
+pub behind_is_behind : (before : List Entry) (e : Entry) (after : List Entry) → FramesNeverFall (before ++ e ∷ after) → All (λ b. e.frame ≤ b.frame) (e ∷ after)
 behind_is_behind [] e after never = All-cons (λ b. e.frame ≤ b.frame) e after (le_refl e.frame) (first_is_first e after never)
 behind_is_behind (b ∷ before) e after never = behind_is_behind before e after (others_never_fall b (before ++ e ∷ after) never)
 

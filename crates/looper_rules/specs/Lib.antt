@@ -21,6 +21,7 @@ pub mod Frame
 pub mod Run
 pub mod Cuts
 pub mod Places
+pub mod Questions
 pub mod States
 pub mod Worked
 pub mod OneLoop

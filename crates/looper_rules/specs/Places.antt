@@ -2,7 +2,7 @@
 -- the entries before it left, over the frames before its own. What it gives there, and all that comes before it, stays
 -- whatever follows.
 -- "The run" in docs/rules.md.
-use Rattle.std.specs.Prelude.{◌≡◌, ℕ, min, List, ◌++◌, length, take, drop, Option, option_to_list}
+use Rattle.std.specs.Prelude.{◌≡◌, ℕ, min, List, ◌∷◌, ◌++◌, length, take, drop, Option, Some, option_to_list}
 use Rattle.sl_base.specs.Sounds.{Sound}
 use Rattle.sl_commands.specs.declared.Entry.{Entry}
 use Rattle.sl_commands.specs.declared.Reply.{Reply}
@@ -45,6 +45,14 @@ abbrev pub run_around : List Entry → Entry → List Entry → List Sound → L
 run_around before e after input l =
     let there = met before e input l in
     joined (run_before before e input l) (given_then (reply e there) (save e there) (run_behind before e after input l))
+
+-- one of a run's entries gives this to the looper that it meets
+pub record ComesWithEntry {X : Type 0} (given : Entry → Looper → Option X) (es : List Entry) (input : List Sound) (l : Looper) (x : X) : Type 0 where
+  pub before : List Entry
+  pub entry : Entry
+  pub after : List Entry
+  pub whole : es ≡ before ++ entry ∷ after
+  pub made : given entry (met before entry input l) ≡ Some x
 
 -- the longer list begins with the shorter
 abbrev pub BeginsWith : {A : Type 0} → List A → List A → Type 0

@@ -13,6 +13,7 @@
 
 mod cut_runs;
 mod one_loop;
+mod replies;
 mod runs_of_controls;
 mod runs_of_lengths;
 mod runs_of_loops;
@@ -25,6 +26,10 @@ pub use cut_runs::{
     entries_to_come_change_nothing_before,
 };
 pub use one_loop::OneMode;
+pub use replies::{
+    a_frame_comes_out_for_each_that_goes_in, a_get_or_a_save_is_answered_once,
+    each_reply_answers_a_get_or_a_save_before_it, gets_are_answered_in_their_order,
+};
 pub use runs_of_controls::{
     a_gain_moves_by_steps, a_long_press_ends_its_overdub, a_recording_waits_for_its_threshold,
     a_short_press_leaves_its_overdub_on, the_dry_gain_moves_by_steps,

@@ -10,15 +10,18 @@ ghost use Rattle.looper_rules.specs.Saves.{Save};
 ghost use Rattle.looper_rules.specs.Entries.{save, track_of, loop_save, session_save};
 ghost use Rattle.looper_rules.specs.Run.{begun, run};
 ghost use Rattle.looper_rules.specs.Cuts.{run_from, FramesNeverFall};
-ghost use Rattle.looper_rules.specs.Places.{run_before, met, run_behind, BeginsWith};
+ghost use Rattle.looper_rules.specs.Places.{run_before, met, run_behind, ComesWithEntry, BeginsWith};
 
-/// The saves of a run are those before an entry, what the entry saves of the looper that it meets, and those behind it.
+/// The saves of a run are those before an entry, what the entry saves of the looper that it meets, and those behind it. So
+/// each save comes with an entry, and is what this one saves.
 pub fn saves_are_those_at_their_entries()
     ensures made { (before : List Entry) → (e : Entry) → (after : List Entry) → (input : List Sound) → (l : Looper) →
         FramesNeverFall (before ++ e ∷ after) →
         (run (before ++ e ∷ after) input l).saves
         ≡ (run_before before e input l).saves
         ++ (option_to_list (save e (met before e input l)) ++ (run_behind before e after input l).saves) }
+    ensures comes { (es : List Entry) → (input : List Sound) → (l : Looper) → FramesNeverFall es →
+        All (ComesWithEntry save es input l) (run es input l).saves }
 {}
 
 /// What an entry saves of a looper: of a loop its list, of a session all lists, with the number, the target, the name and
