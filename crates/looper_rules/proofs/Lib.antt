@@ -9,3 +9,4 @@ pub mod ComesLemmas
 pub mod OnceLemmas
 pub mod SizeLemmas
 pub mod GetLemmas
+pub mod NumberLemmas

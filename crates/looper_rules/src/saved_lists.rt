@@ -1,6 +1,7 @@
 //! A save has the lists at its entry's place, whatever follows.
 
-ghost use Rattle.std.specs.Prelude.{◌≡◌, ◌⊎◌, ℕ, ◌+◌, ◌≤◌, List, [], ◌∷◌, ◌++◌, length, All, Some, option_to_list};
+ghost use Rattle.std.specs.Prelude.{◌≡◌, ◌⊎◌, ℕ, ◌+◌, ◌≤◌, List, [], ◌∷◌, ◌++◌, length, map, All, Some, option_to_list};
+ghost use Rattle.std.specs.List.{range_with_len};
 ghost use Rattle.sl_base.specs.Sounds.{Sound};
 ghost use Rattle.sl_commands.specs.declared.Target.{Target};
 ghost use Rattle.sl_commands.specs.declared.Command.TheVariants.{SaveLoop, SaveSession};
@@ -11,6 +12,7 @@ ghost use Rattle.looper_rules.specs.Entries.{save, track_of, loop_save, session_
 ghost use Rattle.looper_rules.specs.Run.{begun, run};
 ghost use Rattle.looper_rules.specs.Cuts.{run_from, FramesNeverFall};
 ghost use Rattle.looper_rules.specs.Places.{run_before, met, run_behind, ComesWithEntry, BeginsWith};
+ghost use Rattle.looper_rules.specs.Questions.{SelectsALoop};
 
 /// The saves of a run are those before an entry, what the entry saves of the looper that it meets, and those behind it. So
 /// each save comes with an entry, and is what this one saves.
@@ -45,4 +47,13 @@ pub fn no_save_changes_later()
         BeginsWith (run (first ++ next) (xs ++ ys) l).saves (run first xs l).saves }
     ensures begun { (frame : ℕ) → (es : List Entry) → (xs ys : List Sound) → (l : Looper) →
         BeginsWith (run_from frame es (xs ++ ys) l).saves (begun frame es xs l).saves }
+{}
+
+/// The saves of a run are numbered in order, from how many there were, and the last looper tells how many there are then.
+pub fn saves_are_numbered_in_order()
+    ensures numbers { (es : List Entry) → (input : List Sound) → (l : Looper) → SelectsALoop l →
+        let saves = (run es input l).saves in
+        map (λ (s : Save). s.number) saves ≡ range_with_len l.saves (length saves) }
+    ensures count { (es : List Entry) → (input : List Sound) → (l : Looper) → SelectsALoop l →
+        (run es input l).looper.saves ≡ l.saves + length (run es input l).saves }
 {}
