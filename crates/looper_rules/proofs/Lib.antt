@@ -10,3 +10,5 @@ pub mod OnceLemmas
 pub mod SizeLemmas
 pub mod GetLemmas
 pub mod NumberLemmas
+pub mod PinLemmas
+pub mod StandingPins

@@ -9,13 +9,22 @@ use Rattle.looper_rules.specs.Saves.{Save, session_refusal}
 use Rattle.looper_rules.specs.Entries.{is_taken, save, save_of, track_of, refusal_at, loop_save, session_save, unless_refused}
 
 -- an option behind a test, or behind a refusal
-taken_some : (taken : Bool) (o : Option Save) (s : Save) → (if taken then o else None) ≡ Some s → o ≡ Some s
+pub taken_some : (taken : Bool) (o : Option Save) (s : Save) → (if taken then o else None) ≡ Some s → o ≡ Some s
 taken_some true o s is = is
 taken_some false o s is = absurd (cc)
 
-unrefused_some : (refusal : Option ℕ) (o : Option Save) (s : Save) → unless_refused refusal o ≡ Some s → o ≡ Some s
+pub unrefused_some : (refusal : Option ℕ) (o : Option Save) (s : Save) → unless_refused refusal o ≡ Some s → o ≡ Some s
 unrefused_some None o s is = is
 unrefused_some (Some n) o s is = absurd (cc)
+
+-- where an entry saves, it is taken, and its save isn't refused
+pub taken_if_some : (taken : Bool) (o : Option Save) (s : Save) → (if taken then o else None) ≡ Some s → taken ≡ true
+taken_if_some true o s is = refl
+taken_if_some false o s is = absurd (cc)
+
+pub unrefused_if_some : (refusal : Option ℕ) (o : Option Save) (s : Save) → unless_refused refusal o ≡ Some s → refusal ≡ None
+unrefused_if_some None o s is = refl
+unrefused_if_some (Some n) o s is = absurd (cc)
 
 -- what stands behind a mapped option
 mapped_some : (f : Track → Save) (o : Option Track) (s : Save) → option_map f o ≡ Some s → (t : Track) × (o ≡ Some t) × (s ≡ f t)

@@ -22,6 +22,7 @@ pub mod Run
 pub mod Cuts
 pub mod Places
 pub mod Questions
+pub mod Pins
 pub mod States
 pub mod Worked
 pub mod OneLoop

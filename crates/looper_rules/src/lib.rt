@@ -48,6 +48,6 @@ pub use runs_of_one_loop::{
     undo_and_redo_go_between_two_lists, undo_takes_back_half_an_overdub,
 };
 pub use saved_lists::{
-    a_save_is_what_its_entry_met, no_save_changes_later, saves_are_numbered_in_order,
-    saves_are_those_at_their_entries,
+    a_pin_holds_its_list_until_the_release, a_save_is_what_its_entry_met, no_save_changes_later,
+    saves_are_numbered_in_order, saves_are_those_at_their_entries,
 };

@@ -1,18 +1,20 @@
 //! A save has the lists at its entry's place, whatever follows.
 
-ghost use Rattle.std.specs.Prelude.{◌≡◌, ◌⊎◌, ℕ, ◌+◌, ◌≤◌, List, [], ◌∷◌, ◌++◌, length, map, All, Some, option_to_list};
+ghost use Rattle.std.specs.Prelude.{◌≡◌, ◌⊎◌, ℕ, ◌+◌, ◌≤◌, List, [], ◌∷◌, ◌++◌, length, map, All, Some, slice_get, option_to_list};
 ghost use Rattle.std.specs.List.{range_with_len};
 ghost use Rattle.sl_base.specs.Sounds.{Sound};
 ghost use Rattle.sl_commands.specs.declared.Target.{Target};
-ghost use Rattle.sl_commands.specs.declared.Command.TheVariants.{SaveLoop, SaveSession};
+ghost use Rattle.sl_commands.specs.declared.Command.TheVariants.{SaveLoop, SaveSession, Release};
 ghost use Rattle.sl_commands.specs.declared.Entry.{Entry};
-ghost use Rattle.looper_rules.specs.Looper.{Track, Looper};
+ghost use Rattle.looper_rules.specs.Looper.{Track, Looper, index_of};
 ghost use Rattle.looper_rules.specs.Saves.{Save};
-ghost use Rattle.looper_rules.specs.Entries.{save, track_of, loop_save, session_save};
+ghost use Rattle.looper_rules.specs.Entries.{applied, save, track_of, loop_save, session_save};
+ghost use Rattle.looper_rules.specs.Frame.{framed};
 ghost use Rattle.looper_rules.specs.Run.{begun, run};
 ghost use Rattle.looper_rules.specs.Cuts.{run_from, FramesNeverFall};
 ghost use Rattle.looper_rules.specs.Places.{run_before, met, run_behind, ComesWithEntry, BeginsWith};
 ghost use Rattle.looper_rules.specs.Questions.{SelectsALoop};
+ghost use Rattle.looper_rules.specs.Pins.{pins_of, pin_for, PinsStay, PinsStayOrGo, IsNoRelease};
 
 /// The saves of a run are those before an entry, what the entry saves of the looper that it meets, and those behind it. So
 /// each save comes with an entry, and is what this one saves.
@@ -56,4 +58,22 @@ pub fn saves_are_numbered_in_order()
         map (λ (s : Save). s.number) saves ≡ range_with_len l.saves (length saves) }
     ensures count { (es : List Entry) → (input : List Sound) → (l : Looper) → SelectsALoop l →
         (run es input l).looper.saves ≡ l.saves + length (run es input l).saves }
+{}
+
+/// A save that is made pins its loops with the lists that it saves. No frame and no entry changes a pin that stands, until
+/// a release takes it away.
+pub fn a_pin_holds_its_list_until_the_release()
+    ensures loop_save { (frame : ℕ) → (e : Entry) → (l : Looper) → (s : Save) → (target : Target) → (name : List ℕ) →
+        (t : Track) → e.command ≡ SaveLoop target name → save e l ≡ Some s → track_of target l ≡ Some t →
+        slice_get (pins_of (applied frame e l)) (index_of target l.globals.selected_loop_num)
+        ≡ Some (Some (pin_for t)) }
+    ensures session_save { (frame : ℕ) → (e : Entry) → (l : Looper) → (s : Save) → (name : List ℕ) →
+        e.command ≡ SaveSession name → save e l ≡ Some s →
+        pins_of (applied frame e l) ≡ map (λ t. Some (pin_for t)) l.tracks }
+    ensures frame { (frame : ℕ) → (x : Sound) → (l : Looper) →
+        pins_of (framed frame x l).looper ≡ pins_of l }
+    ensures entry { (frame : ℕ) → (e : Entry) → (l : Looper) → IsNoRelease e.command →
+        PinsStay l (applied frame e l) }
+    ensures release { (frame : ℕ) → (e : Entry) → (l : Looper) → (target : Target) → (outcome : ℕ) →
+        e.command ≡ Release target outcome → PinsStayOrGo l (applied frame e l) }
 {}
