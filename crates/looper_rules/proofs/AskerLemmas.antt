@@ -25,37 +25,44 @@ changed_at zero change (a ∷ rest) = change a ∷ rest
 changed_at (suc k) change (a ∷ rest) = a ∷ changed_at k change rest
 
 -- what is done to a loop leaves its track's asker
-pub at_index-same : (k : ℕ) (act : ℕ → Loop Sound → Loop Sound) (free : ℕ) (ts : List Track) → askers_of (at_index k (on_loop act) free ts) ≡ askers_of ts
+pub at_index-same : (k : ℕ) (act : ℕ → Loop Sound → Loop Sound) (free : ℕ) (ts : List Track) →
+    askers_of (at_index k (on_loop act) free ts) ≡ askers_of ts
 at_index-same k act free [] = refl
 at_index-same zero act free (t ∷ ts) = refl
 at_index-same (suc k) act free (t ∷ ts) = ap (λ rest. t.asker ∷ rest) (at_index-same k act free ts)
 
-pub swept-same : (act : ℕ → Loop Sound → Loop Sound) (ts : List Track) (free : ℕ) → askers_of (swept itself (on_loop act) free ts) ≡ askers_of ts
+pub swept-same : (act : ℕ → Loop Sound → Loop Sound) (ts : List Track) (free : ℕ) →
+    askers_of (swept itself (on_loop act) free ts) ≡ askers_of ts
 swept-same act [] free = refl
 swept-same act (t ∷ ts) free = ap (λ rest. t.asker ∷ rest) (swept-same act ts _)
 
-pub at_target-same : (target : Target) (selected : ℕ) (act : ℕ → Loop Sound → Loop Sound) (free : ℕ) (ts : List Track) → askers_of (at_target target selected (on_loop act) free ts) ≡ askers_of ts
+pub at_target-same : (target : Target) (selected : ℕ) (act : ℕ → Loop Sound → Loop Sound) (free : ℕ) (ts : List Track) →
+    askers_of (at_target target selected (on_loop act) free ts) ≡ askers_of ts
 at_target-same (One k) selected act free ts = at_index-same k act free ts
 at_target-same All selected act free ts = swept-same act ts free
 at_target-same Selected selected act free ts = at_index-same selected act free ts
 
 -- a frame leaves all askers
-played-same : (step : ℕ) (x : Sound) (ts : List Track) (free : ℕ) → askers_of (map played_on (swept played_on (played step x) free ts)) ≡ askers_of ts
+played-same : (step : ℕ) (x : Sound) (ts : List Track) (free : ℕ) →
+    askers_of (map played_on (swept played_on (played step x) free ts)) ≡ askers_of ts
 played-same step x [] free = refl
 played-same step x (t ∷ ts) free = ap (λ rest. t.asker ∷ rest) (played-same step x ts _)
 
-pub framed-same : (frame : ℕ) (x : Sound) (l : Looper) → askers_of (framed frame x l).looper.tracks ≡ askers_of l.tracks
+pub framed-same : (frame : ℕ) (x : Sound) (l : Looper) →
+    askers_of (framed frame x l).looper.tracks ≡ askers_of l.tracks
 framed-same frame x l =
     let meeting = at_boundaries frame l in
     played-same l.globals.fade_step x meeting.tracks (free_of l.chunks meeting.tracks) ∙ swept-same (at_boundary l.globals frame (faces_of l)) l.tracks (free_of l.chunks l.tracks)
 
 -- a pin puts its asker there
-pub at_index-pinned : (k : ℕ) (asker : Asker) (free : ℕ) (ts : List Track) → askers_of (at_index k (λ reach t. pinned_for asker t) free ts) ≡ changed_at k (λ a. Some asker) (askers_of ts)
+pub at_index-pinned : (k : ℕ) (asker : Asker) (free : ℕ) (ts : List Track) →
+    askers_of (at_index k (λ reach t. pinned_for asker t) free ts) ≡ changed_at k (λ a. Some asker) (askers_of ts)
 at_index-pinned k asker free [] = refl
 at_index-pinned zero asker free (t ∷ ts) = refl
 at_index-pinned (suc k) asker free (t ∷ ts) = ap (λ rest. t.asker ∷ rest) (at_index-pinned k asker free ts)
 
-pub map-pinned : (asker : Asker) (ts : List Track) → askers_of (map (pinned_for asker) ts) ≡ map (λ a. Some asker) (askers_of ts)
+pub map-pinned : (asker : Asker) (ts : List Track) →
+    askers_of (map (pinned_for asker) ts) ≡ map (λ a. Some asker) (askers_of ts)
 map-pinned asker [] = refl
 map-pinned asker (t ∷ ts) = ap (λ rest. Some asker ∷ rest) (map-pinned asker ts)
 
@@ -75,7 +82,8 @@ abbrev pub without_session : Option Asker → Option Asker
 without_session a = without (session_asker a) a
 
 -- a release takes its asker away
-pub at_index-released : (k : ℕ) (free : ℕ) (ts : List Track) → askers_of (at_index k (λ reach t. loop_released t) free ts) ≡ changed_at k without_loop (askers_of ts)
+pub at_index-released : (k : ℕ) (free : ℕ) (ts : List Track) →
+    askers_of (at_index k (λ reach t. loop_released t) free ts) ≡ changed_at k without_loop (askers_of ts)
 at_index-released k free [] = refl
 at_index-released zero free (t ∷ ts) = ap (λ a. a ∷ askers_of ts) (freed_if-asker (loop_asker t.asker) t)
 at_index-released (suc k) free (t ∷ ts) = ap (λ rest. t.asker ∷ rest) (at_index-released k free ts)
@@ -95,7 +103,8 @@ abbrev pub running : List (Option Asker) → Option Asker
 running [] = None
 running (a ∷ rest) = asker_or (session_asker a) (running rest)
 
-ended-at_tracks : (k : ℕ) (ts : List Track) → option_and_then (λ (t : Track). loop_asker t.asker) (slice_get ts k) ≡ ended_at k (askers_of ts)
+ended-at_tracks : (k : ℕ) (ts : List Track) →
+    option_and_then (λ (t : Track). loop_asker t.asker) (slice_get ts k) ≡ ended_at k (askers_of ts)
 ended-at_tracks k [] = refl
 ended-at_tracks zero (t ∷ ts) = refl
 ended-at_tracks (suc k) (t ∷ ts) = ended-at_tracks k ts

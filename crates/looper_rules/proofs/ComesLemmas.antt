@@ -52,10 +52,12 @@ module _ {X : Type 0} (given : Entry → Looper → Option X) (part : Ran → Li
 
   -- each of what such a run gave comes with one of its entries
   abbrev Comes : List Entry → List Sound → Looper → Type 0
-  Comes es input l = (xs : List Sound) → SameUpTo xs input es → All (ComesWithEntry given es input l) (part (run es xs l))
+  Comes es input l =
+      (xs : List Sound) → SameUpTo xs input es → All (ComesWithEntry given es input l) (part (run es xs l))
 
   -- with an entry more behind the others it still does
-  comes_still : (es : List Entry) (e : Entry) (input : List Sound) (l : Looper) (x : X) → ComesWithEntry given es input l x → ComesWithEntry given (es ++ e ∷ []) input l x
+  comes_still : (es : List Entry) (e : Entry) (input : List Sound) (l : Looper) (x : X) →
+      ComesWithEntry given es input l x → ComesWithEntry given (es ++ e ∷ []) input l x
   comes_still es e input l x c =
       record {
         before = c.before;
@@ -69,12 +71,14 @@ module _ {X : Type 0} (given : Entry → Looper → Option X) (part : Ran → Li
   all_option P None each = All-nil P
   all_option P (Some x) each = All-cons P x [] (each x refl) (All-nil P)
 
-  short : (es : List Entry) (e : Entry) (xs input : List Sound) → All (λ b. b.frame ≤ e.frame) es → SameUpTo xs input es → SameUpTo (take e.frame xs) input es
+  short : (es : List Entry) (e : Entry) (xs input : List Sound) → All (λ b. b.frame ≤ e.frame) es →
+      SameUpTo xs input es → SameUpTo (take e.frame xs) input es
   short es e xs input up_to same k d inside =
       let b = get_or es k d in
       take-take b.frame e.frame xs (up_to k d inside) ∙ same k d inside
 
-  comes_more : (es : List Entry) (e : Entry) (input : List Sound) (l : Looper) → FramesNeverFall (es ++ e ∷ []) → Comes es input l → Comes (es ++ e ∷ []) input l
+  comes_more : (es : List Entry) (e : Entry) (input : List Sound) (l : Looper) → FramesNeverFall (es ++ e ∷ []) →
+      Comes es input l → Comes (es ++ e ∷ []) input l
   comes_more es e input l never comes xs same =
       let P = ComesWithEntry given (es ++ e ∷ []) input l in
       let S = λ (b : Entry). take b.frame xs ≡ take b.frame input in
@@ -86,27 +90,35 @@ module _ {X : Type 0} (given : Entry → Looper → Option X) (part : Ran → Li
       let whole = ap part (run-around es e [] xs l never) ∙ around es e [] xs l ∙ ap (λ more. part (run_before es e xs l) ++ (option_to_list (given e (met es e xs l)) ++ more)) behind in
       All-same P _ _ whole (All-append P _ _ front (All-append P _ _ middle (All-nil P)))
 
-  comes_all : (es rest : List Entry) (input : List Sound) (l : Looper) → FramesNeverFall (es ++ rest) → Comes es input l → Comes (es ++ rest) input l
+  comes_all : (es rest : List Entry) (input : List Sound) (l : Looper) → FramesNeverFall (es ++ rest) →
+      Comes es input l → Comes (es ++ rest) input l
   comes_all es [] input l never comes = subst (λ all. Comes all input l) (sym (append-nil es)) comes
   comes_all es (e ∷ rest) input l never comes =
       let joins = append_assoc es (e ∷ []) rest in
       let whole = subst FramesNeverFall (sym joins) never in
       subst (λ all. Comes all input l) joins (comes_all (es ++ e ∷ []) rest input l whole (comes_more es e input l (pairs_left (λ a b. a.frame ≤ b.frame) (es ++ e ∷ []) rest whole) comes))
 
-  pub all_come : (es : List Entry) (input : List Sound) (l : Looper) → FramesNeverFall es → All (ComesWithEntry given es input l) (part (run es input l))
+  pub all_come : (es : List Entry) (input : List Sound) (l : Looper) → FramesNeverFall es →
+      All (ComesWithEntry given es input l) (part (run es input l))
   all_come es input l never =
       let start : Comes [] input l = λ xs same. All-same (ComesWithEntry given [] input l) _ [] (ap part (run-run_from [] xs l) ∙ none 0 xs l) (All-nil (ComesWithEntry given [] input l)) in
       comes_all [] es input l never start input (λ k d inside. refl)
 
 -- each reply of a run comes with one of its entries, and so does each save
-pub replies_come : (es : List Entry) (input : List Sound) (l : Looper) → FramesNeverFall es → All (ComesWithEntry reply es input l) (run es input l).replies
-replies_come es input l never = all_come reply (λ r. r.replies) (λ before e after input l. refl) run_from-no_replies es input l never
+pub replies_come : (es : List Entry) (input : List Sound) (l : Looper) → FramesNeverFall es →
+    All (ComesWithEntry reply es input l) (run es input l).replies
+replies_come es input l never =
+    all_come reply (λ r. r.replies) (λ before e after input l. refl) run_from-no_replies es input l never
 
-pub saves_come : (es : List Entry) (input : List Sound) (l : Looper) → FramesNeverFall es → All (ComesWithEntry save es input l) (run es input l).saves
-saves_come es input l never = all_come save (λ r. r.saves) (λ before e after input l. refl) run_from-no_saves es input l never
+pub saves_come : (es : List Entry) (input : List Sound) (l : Looper) → FramesNeverFall es →
+    All (ComesWithEntry save es input l) (run es input l).saves
+saves_come es input l never =
+    all_come save (λ r. r.saves) (λ before e after input l. refl) run_from-no_saves es input l never
 
 -- each reply of a run from its start answers the entry with which it comes, or one before it
-pub start-answers : (settings : LooperSettings) (chunks : ℕ) (initial : List (List Sound)) (es : List Entry) (input : List Sound) → FramesNeverFall es → All (AnswersInTime es input (start settings chunks initial)) (run es input (start settings chunks initial)).replies
+pub start-answers : (settings : LooperSettings) (chunks : ℕ) (initial : List (List Sound)) (es : List Entry) (input : List Sound) →
+    FramesNeverFall es →
+    All (AnswersInTime es input (start settings chunks initial)) (run es input (start settings chunks initial)).replies
 start-answers settings chunks initial es input never =
     let l = start settings chunks initial in
     All-weaker (ComesWithEntry reply es input l) (AnswersInTime es input l) (λ r c. record { comes = c; asked = start-asked_before settings chunks initial c.before c.entry input r c.made }) (run es input l).replies (replies_come es input l never)

@@ -47,11 +47,14 @@ numbered-append a b c xs ys first next =
 numbered-none : (n : ℕ) → Numbered n [] n
 numbered-none n = record { numbers = refl; count = sym (add-zero n) }
 
-numbered-loop : (refusal : Option ℕ) (target : Target) (name : List ℕ) (k : ℕ) (asker : Asker) (l : Looper) (o : Option Track) (t : Track) → o ≡ Some t → Numbered l.saves (option_to_list (unless_refused refusal (option_map (loop_save target name l) o))) (saves_loop refusal k asker l).saves
+numbered-loop : (refusal : Option ℕ) (target : Target) (name : List ℕ) (k : ℕ) (asker : Asker) (l : Looper) (o : Option Track) (t : Track) →
+    o ≡ Some t →
+    Numbered l.saves (option_to_list (unless_refused refusal (option_map (loop_save target name l) o))) (saves_loop refusal k asker l).saves
 numbered-loop None target name k asker l o t there = rw there (record { numbers = refl; count = refl })
 numbered-loop (Some n) target name k asker l o t there = numbered-none l.saves
 
-numbered-session : (refusal : Option ℕ) (name : List ℕ) (asker : Asker) (l : Looper) → Numbered l.saves (option_to_list (unless_refused refusal (Some (session_save name l)))) (saves_session refusal asker l).saves
+numbered-session : (refusal : Option ℕ) (name : List ℕ) (asker : Asker) (l : Looper) →
+    Numbered l.saves (option_to_list (unless_refused refusal (Some (session_save name l)))) (saves_session refusal asker l).saves
 numbered-session None name asker l = record { numbers = refl; count = refl }
 numbered-session (Some n) name asker l = numbered-none l.saves
 
@@ -60,11 +63,13 @@ numbered-release (One k) l = numbered-none l.saves
 numbered-release All l = numbered-none l.saves
 numbered-release Selected l = numbered-none l.saves
 
-numbered-performed : (c : Command) (n frame : ℕ) (e : Entry) (l : Looper) → HasLoops n l → is_allowed n c ≡ true → Numbered l.saves (option_to_list (save_of c l)) (performed c frame e l).saves
+numbered-performed : (c : Command) (n frame : ℕ) (e : Entry) (l : Looper) → HasLoops n l → is_allowed n c ≡ true →
+    Numbered l.saves (option_to_list (save_of c l)) (performed c frame e l).saves
 numbered-performed (SaveLoop target name) n frame e l has allowed =
     let there = target_there n target l has (and_parts (is_single_target n target) (is_name name) allowed).0 in
     numbered-loop (refusal_at target l) target name (index_of target l.globals.selected_loop_num) (asker_of e false) l (track_of target l) there.0 there.1
-numbered-performed (SaveSession name) n frame e l has allowed = numbered-session (session_refusal l.tracks) name (asker_of e true) l
+numbered-performed (SaveSession name) n frame e l has allowed =
+    numbered-session (session_refusal l.tracks) name (asker_of e true) l
 numbered-performed (Release target outcome) n frame e l has allowed = numbered-release target l
 numbered-performed (Down target verb) n frame e l has allowed = numbered-none l.saves
 numbered-performed (Up target verb) n frame e l has allowed = numbered-none l.saves
@@ -75,22 +80,26 @@ numbered-performed (Get target control) n frame e l has allowed = numbered-none 
 numbered-performed (GetGlobal control) n frame e l has allowed = numbered-none l.saves
 numbered-performed Quit n frame e l has allowed = numbered-none l.saves
 
-numbered-applied : (n frame : ℕ) (e : Entry) (l : Looper) → HasLoops n l → Numbered l.saves (option_to_list (save e l)) (applied frame e l).saves
+numbered-applied : (n frame : ℕ) (e : Entry) (l : Looper) → HasLoops n l →
+    Numbered l.saves (option_to_list (save e l)) (applied frame e l).saves
 numbered-applied n frame e l has = by_taken (is_taken e l) refl
   where
-    by_taken : (b : Bool) → is_valid (length l.tracks) e ≡ b → Numbered l.saves (option_to_list (if b then save_of e.command l else None)) (if b then performed e.command frame e l else l).saves
+    by_taken : (b : Bool) → is_valid (length l.tracks) e ≡ b →
+        Numbered l.saves (option_to_list (if b then save_of e.command l else None)) (if b then performed e.command frame e l else l).saves
     by_taken true valid =
         let here = subst (λ k. is_valid k e ≡ true) has.loops valid in
         numbered-performed e.command n frame e l has (and_parts (is_sender e.sender e.command) (is_allowed n e.command) here).1
     by_taken false valid = numbered-none l.saves
 
-numbered-entered : (n frame : ℕ) (es : List Entry) (l : Looper) → HasLoops n l → Numbered l.saves (entered frame es l).saves (entered frame es l).looper.saves
+numbered-entered : (n frame : ℕ) (es : List Entry) (l : Looper) → HasLoops n l →
+    Numbered l.saves (entered frame es l).saves (entered frame es l).looper.saves
 numbered-entered n frame [] l has = numbered-none l.saves
 numbered-entered n frame (e ∷ es) l has =
     let now = applied frame e l in
     numbered-append _ _ _ (option_to_list (save e l)) (entered frame es now).saves (numbered-applied n frame e l has) (numbered-entered n frame es now (applied-has_loops n frame e l has))
 
-numbered-begun : (n frame : ℕ) (es : List Entry) (xs : List Sound) (l : Looper) → HasLoops n l → Numbered l.saves (begun frame es xs l).saves (begun frame es xs l).looper.saves
+numbered-begun : (n frame : ℕ) (es : List Entry) (xs : List Sound) (l : Looper) → HasLoops n l →
+    Numbered l.saves (begun frame es xs l).saves (begun frame es xs l).looper.saves
 numbered-begun n frame es [] l has = numbered-none l.saves
 numbered-begun n frame es (x ∷ xs) l has =
     let before = entered frame (due frame es) l in
@@ -99,7 +108,8 @@ numbered-begun n frame es (x ∷ xs) l has =
     numbered-append _ _ _ before.saves next.saves (numbered-entered n frame (due frame es) l has)
     (numbered-begun n (frame + 1) (later frame es) xs now.looper (framed-has_loops n frame x before.looper (entered-has_loops n frame (due frame es) l has)))
 
-numbered-run : (es : List Entry) (input : List Sound) (l : Looper) → SelectsALoop l → Numbered l.saves (run es input l).saves (run es input l).looper.saves
+numbered-run : (es : List Entry) (input : List Sound) (l : Looper) → SelectsALoop l →
+    Numbered l.saves (run es input l).saves (run es input l).looper.saves
 numbered-run es input l selects =
     let n = length l.tracks in
     let has : HasLoops n l = record { loops = refl; selects = selects } in
@@ -108,8 +118,10 @@ numbered-run es input l selects =
     (numbered-entered n (length input) first.left first.looper (begun-has_loops n 0 es input l has))
 
 -- the saves of a run are numbered in order, from how many there were
-pub run-numbers : (es : List Entry) (input : List Sound) (l : Looper) → SelectsALoop l → map (λ (s : Save). s.number) (run es input l).saves ≡ range_with_len l.saves (length (run es input l).saves)
+pub run-numbers : (es : List Entry) (input : List Sound) (l : Looper) → SelectsALoop l →
+    map (λ (s : Save). s.number) (run es input l).saves ≡ range_with_len l.saves (length (run es input l).saves)
 run-numbers es input l selects = (numbered-run es input l selects).numbers
 
-pub run-count_of_saves : (es : List Entry) (input : List Sound) (l : Looper) → SelectsALoop l → (run es input l).looper.saves ≡ l.saves + length (run es input l).saves
+pub run-count_of_saves : (es : List Entry) (input : List Sound) (l : Looper) → SelectsALoop l →
+    (run es input l).looper.saves ≡ l.saves + length (run es input l).saves
 run-count_of_saves es input l selects = (numbered-run es input l selects).count

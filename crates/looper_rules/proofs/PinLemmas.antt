@@ -24,12 +24,14 @@ use Rattle.looper_rules.specs.LoopFrame.{wakes_as, awake_in, awake, stopped, ext
 abbrev pub pin_in : {A : Type 0} → Loop A → Option (Pin A)
 pin_in l = l.stack.pin
 
-if_pin : {A : Type 0} (b : Bool) (l now other : Loop A) → pin_in now ≡ pin_in l → pin_in other ≡ pin_in l → pin_in (if b then now else other) ≡ pin_in l
+if_pin : {A : Type 0} (b : Bool) (l now other : Loop A) → pin_in now ≡ pin_in l → pin_in other ≡ pin_in l →
+    pin_in (if b then now else other) ≡ pin_in l
 if_pin true l now other same same_too = same
 if_pin false l now other same same_too = same_too
 
 -- closing
-closed_recording_pin : {A : Type 0} (empty single : Bool) (l : Loop A) → pin_in (closed_recording empty single l) ≡ pin_in l
+closed_recording_pin : {A : Type 0} (empty single : Bool) (l : Loop A) →
+    pin_in (closed_recording empty single l) ≡ pin_in l
 closed_recording_pin true true l = refl
 closed_recording_pin true false l = refl
 closed_recording_pin false single l = refl
@@ -42,11 +44,13 @@ closed_from_pin _ l = refl
 closed_pin : {A : Type 0} (l : Loop A) → pin_in (closed l) ≡ pin_in l
 closed_pin l = closed_from_pin l.deck.mode l
 
-unless_off_pin : {A : Type 0} (mode : Mode) (act : Loop A → Loop A) (l : Loop A) → pin_in (act l) ≡ pin_in l → pin_in (unless_off mode act l) ≡ pin_in l
+unless_off_pin : {A : Type 0} (mode : Mode) (act : Loop A → Loop A) (l : Loop A) → pin_in (act l) ≡ pin_in l →
+    pin_in (unless_off mode act l) ≡ pin_in l
 unless_off_pin Off act l same = refl
 unless_off_pin _ act l same = same
 
-closes_then_pin : {A : Type 0} (act : Loop A → Loop A) (l : Loop A) → ((l : Loop A) → pin_in (act l) ≡ pin_in l) → pin_in (closes_then act l) ≡ pin_in l
+closes_then_pin : {A : Type 0} (act : Loop A → Loop A) (l : Loop A) → ((l : Loop A) → pin_in (act l) ≡ pin_in l) →
+    pin_in (closes_then act l) ≡ pin_in l
 closes_then_pin act l same = unless_off_pin (closed l).deck.mode act (closed l) (same (closed l)) ∙ closed_pin l
 
 -- starting
@@ -55,9 +59,11 @@ records_pin Ok l = refl
 records_pin _ l = refl
 
 starts_record_pin : {A : Type 0} (reach : ℕ) (l : Loop A) → pin_in (starts_record reach l) ≡ pin_in l
-starts_record_pin reach l = if_pin (nat_lt 0 l.controls.rec_thresh) l (in_mode WaitStart l) (records (opening reach true l.stack) l) refl (records_pin (opening reach true l.stack) l)
+starts_record_pin reach l =
+    if_pin (nat_lt 0 l.controls.rec_thresh) l (in_mode WaitStart l) (records (opening reach true l.stack) l) refl (records_pin (opening reach true l.stack) l)
 
-layers_on_pin : {A : Type 0} (answer : Started) (mode : Mode) (l : Loop A) → pin_in (layers_on answer mode l) ≡ pin_in l
+layers_on_pin : {A : Type 0} (answer : Started) (mode : Mode) (l : Loop A) →
+    pin_in (layers_on answer mode l) ≡ pin_in l
 layers_on_pin Ok mode l = refl
 layers_on_pin _ mode l = refl
 
@@ -96,7 +102,9 @@ with_more_pin _ l = refl
 
 redo_from_pin : {A : Type 0} (layers : List (Layer A)) (l : Loop A) → pin_in (redo_from layers l) ≡ pin_in l
 redo_from_pin [] l = refl
-redo_from_pin (_ ∷ _) l = with_more_pin l.deck.mode (with_stack (redone_from l.stack.redo l.stack) l) ∙ redone_from_pin l.stack.redo l.stack
+redo_from_pin (_ ∷ _) l =
+    with_more_pin l.deck.mode (with_stack (redone_from l.stack.redo l.stack) l)
+    ∙ redone_from_pin l.stack.redo l.stack
 
 redo_pin : {A : Type 0} (l : Loop A) → pin_in (redo l) ≡ pin_in l
 redo_pin l = redo_from_pin l.stack.redo l
@@ -107,7 +115,8 @@ redo_each_pin (_ ∷ ls) l = redo_each_pin ls (redo l) ∙ redo_pin l
 
 -- the rows of the verbs
 ends_pin : {A : Type 0} (l : Loop A) → pin_in (ends l) ≡ pin_in l
-ends_pin l = if_pin (l.controls.round == 0 || l.deck.rounding || at_stop l) l (closed l) (rounds l) (closed_pin l) refl
+ends_pin l =
+    if_pin (l.controls.round == 0 || l.deck.rounding || at_stop l) l (closed l) (rounds l) (closed_pin l) refl
 
 reversed_in_pin : {A : Type 0} (mode : Mode) (l : Loop A) → pin_in (reversed_in mode l) ≡ pin_in l
 reversed_in_pin Recording l = closes_then_pin turned l (λ l. refl)
@@ -121,17 +130,21 @@ record_row_pin InItsOwn reach l = closed_pin l
 record_row_pin InAnother reach l = starts_record_pin reach (closed l) ∙ closed_pin l
 record_row_pin Elsewhere reach l = starts_record_pin reach l
 
-layer_row_pin : {A : Type 0} (place : Column) (mode : Mode) (reach : ℕ) (l : Loop A) → pin_in (layer_row place mode reach l) ≡ pin_in l
+layer_row_pin : {A : Type 0} (place : Column) (mode : Mode) (reach : ℕ) (l : Loop A) →
+    pin_in (layer_row place mode reach l) ≡ pin_in l
 layer_row_pin InOff mode reach l = refl
 layer_row_pin InItsOwn mode reach l = closed_pin l
 layer_row_pin InAnother mode reach l = closes_then_pin (starts mode reach) l (starts_pin mode reach)
 layer_row_pin Elsewhere mode reach l = starts_pin mode reach l
 
-length_row_pin : {A : Type 0} (place : Column) (mode : Mode) (reach : ℕ) (l : Loop A) → pin_in (length_row place mode reach l) ≡ pin_in l
+length_row_pin : {A : Type 0} (place : Column) (mode : Mode) (reach : ℕ) (l : Loop A) →
+    pin_in (length_row place mode reach l) ≡ pin_in l
 length_row_pin InOff mode reach l = refl
 length_row_pin InItsOwn mode reach l = ends_pin l
-length_row_pin InAnother mode reach l = if_pin l.deck.backward l l (closes_then (starts mode reach) l) refl (closes_then_pin (starts mode reach) l (starts_pin mode reach))
-length_row_pin Elsewhere mode reach l = if_pin l.deck.backward l l (starts mode reach l) refl (starts_pin mode reach l)
+length_row_pin InAnother mode reach l =
+    if_pin l.deck.backward l l (closes_then (starts mode reach) l) refl (closes_then_pin (starts mode reach) l (starts_pin mode reach))
+length_row_pin Elsewhere mode reach l =
+    if_pin l.deck.backward l l (starts mode reach l) refl (starts_pin mode reach l)
 
 mute_row_pin : {A : Type 0} (place : Column) (l : Loop A) → pin_in (mute_row place l) ≡ pin_in l
 mute_row_pin InOff l = refl
@@ -162,7 +175,8 @@ reverse_row_pin InOff l = refl
 reverse_row_pin Elsewhere l = refl
 reverse_row_pin _ l = reversed_in_pin l.deck.mode l
 
-row_pin : {A : Type 0} (verb : Verb) (place : Column) (reach : ℕ) (l : Loop A) → pin_in (row verb place reach l) ≡ pin_in l
+row_pin : {A : Type 0} (verb : Verb) (place : Column) (reach : ℕ) (l : Loop A) →
+    pin_in (row verb place reach l) ≡ pin_in l
 row_pin Rec place reach l = record_row_pin place reach l
 row_pin Overdub place reach l = layer_row_pin place Overdubbing reach l
 row_pin Multiply place reach l = length_row_pin place Multiplying reach l
@@ -186,7 +200,8 @@ acts_waiting_pin : {A : Type 0} (verb : Verb) (reach : ℕ) (l : Loop A) → pin
 acts_waiting_pin Rec reach l = refl
 acts_waiting_pin verb reach l = row_pin verb (column verb (leaves_wait l).deck.mode) reach (leaves_wait l)
 
-acts_from_pin : {A : Type 0} (verb : Verb) (mode : Mode) (reach : ℕ) (l : Loop A) → pin_in (acts_from verb mode reach l) ≡ pin_in l
+acts_from_pin : {A : Type 0} (verb : Verb) (mode : Mode) (reach : ℕ) (l : Loop A) →
+    pin_in (acts_from verb mode reach l) ≡ pin_in l
 acts_from_pin verb WaitStart reach l = acts_waiting_pin verb reach l
 acts_from_pin verb mode reach l = row_pin verb (column verb mode) reach l
 
@@ -194,24 +209,30 @@ acts_pin : {A : Type 0} (verb : Verb) (reach : ℕ) (l : Loop A) → pin_in (act
 acts_pin verb reach l = acts_from_pin verb l.deck.mode reach l
 
 -- presses, and the verb that waits
-given_at_once_pin : {A : Type 0} (now : Bool) (verb : Verb) (reach : ℕ) (l : Loop A) → pin_in (given_at_once now verb reach l) ≡ pin_in l
+given_at_once_pin : {A : Type 0} (now : Bool) (verb : Verb) (reach : ℕ) (l : Loop A) →
+    pin_in (given_at_once now verb reach l) ≡ pin_in l
 given_at_once_pin true verb reach l = acts_pin verb reach l
 given_at_once_pin false verb reach l = refl
 
 pub given_pin : {A : Type 0} (verb : Verb) (reach : ℕ) (l : Loop A) → pin_in (given verb reach l) ≡ pin_in l
 given_pin verb reach l = given_at_once_pin (l.controls.quantize == 0 || never_waits verb) verb reach l
 
-pub pressed_pin : {A : Type 0} (verb : Verb) (frame reach : ℕ) (l : Loop A) → pin_in (pressed verb frame reach l) ≡ pin_in l
+pub pressed_pin : {A : Type 0} (verb : Verb) (frame reach : ℕ) (l : Loop A) →
+    pin_in (pressed verb frame reach l) ≡ pin_in l
 pressed_pin verb frame reach l = given_pin verb reach l
 
-released_long_pin : {A : Type 0} (long : Bool) (verb : Verb) (reach : ℕ) (l : Loop A) → pin_in (released_long long verb reach l) ≡ pin_in l
+released_long_pin : {A : Type 0} (long : Bool) (verb : Verb) (reach : ℕ) (l : Loop A) →
+    pin_in (released_long long verb reach l) ≡ pin_in l
 released_long_pin true verb reach l = given_pin verb reach (with_press None l)
 released_long_pin false verb reach l = refl
 
-pub released_pin : {A : Type 0} (verb : Verb) (frame long_press reach : ℕ) (l : Loop A) → pin_in (released verb frame long_press reach l) ≡ pin_in l
-released_pin verb frame long_press reach l = if_pin (is_press_of verb l.deck.press) l _ l (released_long_pin _ verb reach l) refl
+pub released_pin : {A : Type 0} (verb : Verb) (frame long_press reach : ℕ) (l : Loop A) →
+    pin_in (released verb frame long_press reach l) ≡ pin_in l
+released_pin verb frame long_press reach l =
+    if_pin (is_press_of verb l.deck.press) l _ l (released_long_pin _ verb reach l) refl
 
-waiting_acts_from_pin : {A : Type 0} (waiting : Option Verb) (reach : ℕ) (l : Loop A) → pin_in (waiting_acts_from waiting reach l) ≡ pin_in l
+waiting_acts_from_pin : {A : Type 0} (waiting : Option Verb) (reach : ℕ) (l : Loop A) →
+    pin_in (waiting_acts_from waiting reach l) ≡ pin_in l
 waiting_acts_from_pin None reach l = refl
 waiting_acts_from_pin (Some verb) reach l = acts_pin verb reach (with_waiting None l)
 
@@ -223,7 +244,8 @@ wakes_as_pin : {A : Type 0} (answer : Started) (l : Loop A) → pin_in (wakes_as
 wakes_as_pin Ok l = refl
 wakes_as_pin _ l = refl
 
-awake_in_pin : {A : Type 0} (mode : Mode) (loud : Bool) (reach : ℕ) (l : Loop A) → pin_in (awake_in mode loud reach l) ≡ pin_in l
+awake_in_pin : {A : Type 0} (mode : Mode) (loud : Bool) (reach : ℕ) (l : Loop A) →
+    pin_in (awake_in mode loud reach l) ≡ pin_in l
 awake_in_pin WaitStart true reach l = wakes_as_pin (opening reach true l.stack) l
 awake_in_pin _ _ reach l = refl
 
