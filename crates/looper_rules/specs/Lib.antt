@@ -21,4 +21,5 @@ pub mod Entries
 pub mod Frame
 pub mod Run
 pub mod States
+pub mod Reached
 pub mod Worked

@@ -6,5 +6,7 @@
 #![tactic(auto)]
 
 mod one_loop;
+pub mod reached;
+mod runs_of_one_loop;
 
 pub use one_loop::OneMode;

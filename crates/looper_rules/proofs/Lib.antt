@@ -1,0 +1,3 @@
+pub mod KeptDecks
+pub mod KeptLayers
+pub mod KeptOpening

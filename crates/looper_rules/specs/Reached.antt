@@ -1,0 +1,56 @@
+-- What makes the facts of "States" last, from one call and one frame to the next. Beside them:
+-- - the end of a layer is at least that of the layer below it, and the redo layers, in the order in which they come
+--   back, go on so from the current one; so an opening can take the tape back to the current layer's end;
+-- - the tape takes at most the chunks that the loop reaches;
+-- - verbs and frames leave the controls, the press and whether a pin stands as they were.
+-- A run begins from settings in their ranges, with one list for each strip, of its length, whose chunks are all there.
+use Rattle.std.specs.Prelude.{◌≡◌, ℕ, ◌≤◌, ⊤, Bool, IsTrue, List, [], ◌∷◌, length, map, Option, is_some}
+use Rattle.sl_base.specs.Sounds.{Sound}
+use Rattle.sl_commands.specs.declared.Held.{Held}
+use Rattle.sl_commands.specs.declared.StripSettings.{StripSettings}
+use Rattle.sl_commands.specs.Settings.{LooperSettings, are_settings}
+use Rattle.looper_rules.specs.Limits.{max_value}
+use Rattle.looper_rules.specs.Layers.{Layer, current_end}
+use Rattle.looper_rules.specs.Room.{chunks_of, used}
+use Rattle.looper_rules.specs.Loop.{Controls, Loop}
+use Rattle.looper_rules.specs.States.{InMode, IsRun, IsStack}
+
+-- no layer ends below the one under it
+abbrev pub AreOrdered : {A : Type 0} → List (Layer A) → Type 0
+AreOrdered [] = ⊤
+AreOrdered (l ∷ ls) = (current_end ls ≤ l.end) × AreOrdered ls
+
+-- redo layers whose ends go on, from the end of the current layer
+abbrev pub GoOnFrom : {A : Type 0} → ℕ → List (Layer A) → Type 0
+GoOnFrom end [] = ⊤
+GoOnFrom end (l ∷ ls) = (end ≤ l.end) × GoOnFrom l.end ls
+
+-- what verbs and frames leave as it is: the chunks in reach, whether a pin stands, the controls and the press
+pub record Aside : Type 0 where
+  pub reach : ℕ
+  pub pinned : Bool
+  pub controls : Controls
+  pub press : Option Held
+
+-- what a loop keeps
+pub record Keeps {A : Type 0} (a : Aside) (l : Loop A) : Type 0 where
+  pub in_mode : InMode l.deck.mode l.stack.layers l.stack.redo l.deck.pos l.deck.backward
+  pub run : IsRun l.deck.mode l.stack.run l.deck.pos l.deck.backward
+  pub stack : IsStack l.stack
+  pub order : AreOrdered l.stack.layers
+  pub redo_order : GoOnFrom (current_end l.stack.layers) l.stack.redo
+  pub refused : l.refused ≤ max_value
+  pub reach : chunks_of l.stack.tape ≤ a.reach
+  pub pinned : is_some l.stack.pin ≡ a.pinned
+  pub controls : l.controls ≡ a.controls
+  pub press : l.deck.press ≡ a.press
+
+-- the length that a strip tells
+abbrev pub strip_length : StripSettings → ℕ
+strip_length s = s.length
+
+-- settings, chunks and lists with which a run may begin
+pub record IsBeginning (settings : LooperSettings) (chunks : ℕ) (lists : List (List Sound)) : Type 0 where
+  pub in_range : IsTrue (are_settings settings)
+  pub lengths : map length lists ≡ map strip_length settings.strips
+  pub fits : used (map length lists) ≤ chunks
