@@ -47,13 +47,15 @@ new_layer_short false tape last (l ∷ ls) within = rw length-unmarked within.0.
 -- a layer that is opened over a list is a copy of it
 copies : {A : Type 0} (tape pos : ℕ) (layers : List (Layer A)) → ArePlayable layers pos → IsOpenOver (new_layer false tape layers) × (pos < length (new_layer false tape layers).cells)
 copies tape pos [] playable = absurd (omega arith)
-copies tape pos (l ∷ ls) (closed, inside) =
-    (record {
-      base_not_empty = rw length-map closed.0.not_empty;
-      base_within = rw (length-unmarked, length-map) (omega arith);
-      cycle_from = closed.0.cycle_from;
-      cycle_to = rw length-map closed.0.cycle_to;
-    }, rw length-unmarked inside)
+copies tape pos (l ∷ ls) (closed, inside) = (
+  record {
+    base_not_empty = rw length-map closed.0.not_empty;
+    base_within = rw (length-unmarked, length-map) (omega arith);
+    cycle_from = closed.0.cycle_from;
+    cycle_to = rw length-map closed.0.cycle_to;
+  },
+  rw length-unmarked inside,
+)
 
 -- a stack with a layer opened is within its limits
 opened_stack :

@@ -1,3 +1,4 @@
 pub mod KeptDecks
 pub mod KeptLayers
 pub mod KeptOpening
+pub mod KeptClosing

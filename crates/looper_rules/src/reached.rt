@@ -1,14 +1,20 @@
 //! What holds of every loop and looper that a run reaches.
 
-ghost use Rattle.std.specs.Prelude.{◌≡◌, ℕ, true};
+ghost use Rattle.std.specs.Prelude.{◌≡◌, ℕ, true, IsTrue};
 ghost use Rattle.sl_base.specs.Sounds.{Sound};
 ghost use Rattle.looper_rules.specs.Opening.{opening};
-ghost use Rattle.looper_rules.specs.Loop.{Loop, refused_once};
+ghost use Rattle.looper_rules.specs.Loop.{Loop, is_writing};
 ghost use Rattle.looper_rules.specs.Starting.{records};
+ghost use Rattle.looper_rules.specs.Closing.{closed};
 ghost use Rattle.looper_rules.specs.States.{AreClosed};
 ghost use Rattle.looper_rules.specs.Reached.{Aside, Keeps};
 
 /// A refusal that is counted changes nothing of what a loop keeps.
 pub fn an_opening_keeps_the_loop()
     ensures { (a : Aside) (l : Loop Sound) → Keeps a l → AreClosed l.stack.layers → Keeps a (records (opening a.reach true l.stack) l) }
+{}
+
+/// A loop that closes its layer keeps it too.
+pub fn a_closing_keeps_the_loop()
+    ensures { (a : Aside) (l : Loop Sound) → IsTrue (is_writing l.deck.mode) → Keeps a l → Keeps a (closed l) }
 {}
