@@ -2,10 +2,12 @@
 
 ghost use Rattle.std.specs.Prelude.{◌≡◌, ℕ, true, IsTrue};
 ghost use Rattle.sl_base.specs.Sounds.{Sound};
+ghost use Rattle.sl_commands.specs.declared.Verb.{Verb};
 ghost use Rattle.looper_rules.specs.Opening.{opening};
 ghost use Rattle.looper_rules.specs.Loop.{Loop, is_writing};
 ghost use Rattle.looper_rules.specs.Starting.{records};
 ghost use Rattle.looper_rules.specs.Closing.{closed};
+ghost use Rattle.looper_rules.specs.Verbs.{acts};
 ghost use Rattle.looper_rules.specs.States.{AreClosed};
 ghost use Rattle.looper_rules.specs.Reached.{Aside, Keeps};
 
@@ -17,4 +19,9 @@ pub fn an_opening_keeps_the_loop()
 /// A loop that closes its layer keeps it too.
 pub fn a_closing_keeps_the_loop()
     ensures { (a : Aside) (l : Loop Sound) → IsTrue (is_writing l.deck.mode) → Keeps a l → Keeps a (closed l) }
+{}
+
+/// Every verb keeps it, in every mode.
+pub fn a_verb_keeps_the_loop()
+    ensures { (a : Aside) (verb : Verb) (l : Loop Sound) → Keeps a l → Keeps a (acts verb a.reach l) }
 {}
