@@ -5,3 +5,6 @@ pub mod KeptClosing
 pub mod KeptRest
 pub mod KeptHistory
 pub mod KeptVerbs
+pub mod KeptPresses
+pub mod KeptWriting
+pub mod KeptLoopFrame

@@ -8,6 +8,7 @@ ghost use Rattle.looper_rules.specs.Loop.{Loop, is_writing};
 ghost use Rattle.looper_rules.specs.Starting.{records};
 ghost use Rattle.looper_rules.specs.Closing.{closed};
 ghost use Rattle.looper_rules.specs.Verbs.{acts};
+ghost use Rattle.looper_rules.specs.LoopFrame.{ready, after};
 ghost use Rattle.looper_rules.specs.States.{AreClosed};
 ghost use Rattle.looper_rules.specs.Reached.{Aside, Keeps};
 
@@ -24,4 +25,9 @@ pub fn a_closing_keeps_the_loop()
 /// Every verb keeps it, in every mode.
 pub fn a_verb_keeps_the_loop()
     ensures { (a : Aside) (verb : Verb) (l : Loop Sound) → Keeps a l → Keeps a (acts verb a.reach l) }
+{}
+
+/// A frame keeps it, in every mode.
+pub fn a_frame_keeps_the_loop()
+    ensures { (a : Aside) (x : Sound) (l : Loop Sound) → Keeps a l → Keeps a (after x a.reach (ready x a.reach l)) }
 {}
