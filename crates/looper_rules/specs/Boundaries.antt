@@ -7,6 +7,7 @@
 --   That loop has to be running, in Playing, Overdubbing, Multiplying, Inserting, Replacing, Substituting, Muted or
 --   OneShot; where it isn't, each frame is a boundary.
 -- All faces are those of the moment after the entries of the frame.
+-- "Boundaries" in docs/rules.md.
 use Rattle.std.specs.Prelude.{ℕ, zero, suc, ◌/◌, ◌%◌, max, ℤ, pos, negsuc, Bool, true, false, ◌||◌, not, List, Option, Some, None, slice_get, ◌==◌, if◌then◌else◌}
 use Rattle.sl_commands.specs.declared.Mode.{Mode}
 use Rattle.sl_commands.specs.declared.Mode.TheVariants.{Playing, Overdubbing, Multiplying, Inserting, Replacing, Substituting, Muted, OneShot}
@@ -26,7 +27,10 @@ is_running _ = false
 
 -- the unit of a source, by the quantize of the loop that waits
 abbrev pub unit_of : ℕ → Face → ℕ
-unit_of quantize source = if quantize == 1 then source.cycle else if quantize == 2 then max 1 (source.cycle / 8) else source.length
+unit_of quantize source =
+    if quantize == 1 then source.cycle
+    else if quantize == 2 then max 1 (source.cycle / 8)
+    else source.length
 
 -- whether the source loop, where there is one, is at a unit or isn't running
 abbrev pub source_at_unit : ℕ → Option Face → Bool
@@ -41,4 +45,5 @@ source_at_boundary (negsuc _) quantize pulse frame faces = frame % pulse == 0
 
 -- whether a frame is a boundary for a loop with this quantize
 abbrev pub is_boundary : ℤ → ℕ → ℕ → ℕ → List Face → Bool
-is_boundary source quantize pulse frame faces = quantize == 0 || source_at_boundary source quantize pulse frame faces
+is_boundary source quantize pulse frame faces =
+    quantize == 0 || source_at_boundary source quantize pulse frame faces

@@ -8,6 +8,7 @@
 -- - in the other modes the mode is Playing.
 -- The stop of Multiplying is reached where pos is a multiple of the cycle, that of Inserting where the length less the
 -- base's length is one.
+-- "Closing" in docs/rules.md.
 use Rattle.std.specs.Prelude.{ℕ, ◌-◌, ◌%◌, Bool, true, false, List, [], Option, Some, None, length, take, nat_lt, nat_le, ◌==◌, if◌then◌else◌}
 use Rattle.sl_commands.specs.declared.Mode.{Mode}
 use Rattle.sl_commands.specs.declared.Mode.TheVariants.{Off, Recording, Playing, Multiplying, Inserting}
@@ -26,7 +27,15 @@ closing_cycle cycle len = if cycle == 0 then len else cycle
 
 -- the layer closed with these cells, at this tape length
 abbrev pub closed_layer : {A : Type 0} → List (Cell A) → ℕ → Layer A → Layer A
-closed_layer cells tape l = record { cells = unmarked cells; base = []; base_seams = 0; cycle = closing_cycle l.cycle (length cells); end = tape; seams = l.seams }
+closed_layer cells tape l =
+    record {
+      cells = unmarked cells;
+      base = [];
+      base_seams = 0;
+      cycle = closing_cycle l.cycle (length cells);
+      end = tape;
+      seams = l.seams;
+    }
 
 -- the layer closed with so many of its cells
 abbrev pub finished_layer : {A : Type 0} → Option ℕ → ℕ → Layer A → Layer A

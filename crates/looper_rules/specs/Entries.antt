@@ -4,9 +4,9 @@
 -- All loops are taken in index order, and the selected loop is that of selected_loop_num at that moment.
 -- A reply carries the sender and seq of the get or save that it answers, and the index of the loop, or -2 for the looper's
 -- own controls and for a session. One entry gives at most one reply, and makes at most one save.
-use Rattle.std.specs.Prelude.{ℕ, ◌+◌, ℤ, pos, negsuc, unsigned_abs, Bool, true, false, List, [], ◌∷◌, ◌++◌, length, map, Option, Some, None, slice_get, option_map, if◌then◌else◌}
+-- "Entries and replies" in docs/rules.md.
+use Rattle.std.specs.Prelude.{ℕ, ◌+◌, ℤ, pos, negsuc, unsigned_abs, Bool, true, false, List, [], ◌∷◌, length, map, Option, Some, None, slice_get, option_map, if◌then◌else◌}
 use Rattle.std.specs.Option.{option_and_then}
-use Rattle.sl_commands.specs.declared.Verb.{Verb}
 use Rattle.sl_commands.specs.declared.Control.{Control}
 use Rattle.sl_commands.specs.declared.Target.{Target}
 use Rattle.sl_commands.specs.declared.Target.TheVariants.{One, All, Selected}
@@ -49,7 +49,11 @@ refusal_at target l = option_and_then save_refusal (track_of target l)
 
 -- the track of this index pinned, and one save more
 abbrev pub with_save_of : ℕ → Asker → Looper → Looper
-with_save_of k asker l = record l { tracks = at_index k (λ reach t. pinned_for asker t) 0 l.tracks; saves = l.saves + 1 }
+with_save_of k asker l =
+    record l {
+      tracks = at_index k (λ reach t. pinned_for asker t) 0 l.tracks;
+      saves = l.saves + 1;
+    }
 
 -- the looper after a save of a loop, by the answer at once
 abbrev pub saves_loop : Option ℕ → ℕ → Asker → Looper → Looper
@@ -76,7 +80,8 @@ performed (Set target control value) frame e l = on_target target (sets control 
 performed (SetGlobal control value) frame e l = record l { globals = with_global control value l.globals }
 performed (Get target control) frame e l = l
 performed (GetGlobal control) frame e l = l
-performed (SaveLoop target name) frame e l = saves_loop (refusal_at target l) (index_of target l.globals.selected_loop_num) (asker_of e false) l
+performed (SaveLoop target name) frame e l =
+    saves_loop (refusal_at target l) (index_of target l.globals.selected_loop_num) (asker_of e false) l
 performed (SaveSession name) frame e l = saves_session (session_refusal l.tracks) (asker_of e true) l
 performed (Release target outcome) frame e l = releases target l
 performed Quit frame e l = l
@@ -91,7 +96,14 @@ reply_to e index what value = record { sender = e.sender; seq = e.seq; index = i
 
 -- an answer to the save of this asker
 abbrev pub outcome_for : ℤ → What → ℕ → Asker → Reply
-outcome_for index what outcome asker = record { sender = asker.sender; seq = asker.seq; index = index; what = what; value = pos outcome }
+outcome_for index what outcome asker =
+    record {
+      sender = asker.sender;
+      seq = asker.seq;
+      index = index;
+      what = what;
+      value = pos outcome;
+    }
 
 -- the value of a control of a track
 abbrev pub value_on : Control → ℕ → Track → ℤ
@@ -109,10 +121,14 @@ release_reply Selected outcome l = None
 
 -- the reply to the command of a valid entry
 abbrev pub reply_of : Command → Entry → Looper → Option Reply
-reply_of (Get target control) e l = option_map (λ t. reply_to e (told_index target l) (Value control) (value_on control (free_of l.chunks l.tracks) t)) (track_of target l)
-reply_of (GetGlobal control) e l = Some (reply_to e (negsuc 1) (Value control) (told (global_value control l.globals)))
-reply_of (SaveLoop target name) e l = option_map (λ refusal. reply_to e (told_index target l) OfLoop (pos refusal)) (refusal_at target l)
-reply_of (SaveSession name) e l = option_map (λ refusal. reply_to e (negsuc 1) OfSession (pos refusal)) (session_refusal l.tracks)
+reply_of (Get target control) e l =
+    option_map (λ t. reply_to e (told_index target l) (Value control) (value_on control (free_of l.chunks l.tracks) t)) (track_of target l)
+reply_of (GetGlobal control) e l =
+    Some (reply_to e (negsuc 1) (Value control) (told (global_value control l.globals)))
+reply_of (SaveLoop target name) e l =
+    option_map (λ refusal. reply_to e (told_index target l) OfLoop (pos refusal)) (refusal_at target l)
+reply_of (SaveSession name) e l =
+    option_map (λ refusal. reply_to e (negsuc 1) OfSession (pos refusal)) (session_refusal l.tracks)
 reply_of (Release target outcome) e l = release_reply target outcome l
 reply_of _ e l = None
 
@@ -122,11 +138,25 @@ reply e l = if is_taken e l then reply_of e.command e l else None
 
 -- the save of this track
 abbrev pub loop_save : Target → List ℕ → Looper → Track → Save
-loop_save target name l t = record { number = l.saves; target = One (index_of target l.globals.selected_loop_num); name = name; settings = settings_of l; lists = list_on t ∷ [] }
+loop_save target name l t =
+    record {
+      number = l.saves;
+      target = One (index_of target l.globals.selected_loop_num);
+      name = name;
+      settings = settings_of l;
+      lists = list_on t ∷ [];
+    }
 
 -- the save of the session
 abbrev pub session_save : List ℕ → Looper → Save
-session_save name l = record { number = l.saves; target = All; name = name; settings = settings_of l; lists = map list_on l.tracks }
+session_save name l =
+    record {
+      number = l.saves;
+      target = All;
+      name = name;
+      settings = settings_of l;
+      lists = map list_on l.tracks;
+    }
 
 -- the save that is made, by the answer at once
 abbrev pub unless_refused : Option ℕ → Option Save → Option Save
@@ -135,7 +165,8 @@ unless_refused (Some _) save = None
 
 -- the save that the command of a valid entry makes
 abbrev pub save_of : Command → Looper → Option Save
-save_of (SaveLoop target name) l = unless_refused (refusal_at target l) (option_map (loop_save target name l) (track_of target l))
+save_of (SaveLoop target name) l =
+    unless_refused (refusal_at target l) (option_map (loop_save target name l) (track_of target l))
 save_of (SaveSession name) l = unless_refused (session_refusal l.tracks) (Some (session_save name l))
 save_of _ l = None
 

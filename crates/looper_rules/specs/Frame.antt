@@ -1,7 +1,8 @@
 -- One frame of the looper: the entries of the frame apply in order; then all faces are taken, and in index order each
 -- verb that waits, and has a boundary by these faces, stops waiting and acts; then in index order each loop's gain moves
 -- toward wet, and the loop has its frame; then the dry gain moves toward dry, and the output is the clamped sum.
-use Rattle.std.specs.Prelude.{ℕ, List, [], ◌∷◌, map, if◌then◌else◌}
+-- "One frame of the looper" in docs/rules.md.
+use Rattle.std.specs.Prelude.{ℕ, List, map, if◌then◌else◌}
 use Rattle.sl_base.specs.Sounds.{Sound, scaled_sound}
 use Rattle.sl_commands.specs.declared.Face.{Face}
 use Rattle.sl_commands.specs.declared.Globals.{Globals}
@@ -14,11 +15,17 @@ use Rattle.looper_rules.specs.Looper.{Track, Looper, faces_of, free_of, swept, i
 
 -- the loop after the boundary of a frame, by all faces
 abbrev pub at_boundary : Globals → ℕ → List Face → ℕ → Loop Sound → Loop Sound
-at_boundary g frame faces reach l = if is_boundary g.sync_source l.controls.quantize g.pulse frame faces then waiting_acts reach l else l
+at_boundary g frame faces reach l =
+    if is_boundary g.sync_source l.controls.quantize g.pulse frame faces
+    then waiting_acts reach l
+    else l
 
 -- the looper after the boundaries of a frame
 abbrev pub at_boundaries : ℕ → Looper → Looper
-at_boundaries frame l = record l { tracks = swept itself (on_loop (at_boundary l.globals frame (faces_of l))) (free_of l.chunks l.tracks) l.tracks }
+at_boundaries frame l =
+    record l {
+      tracks = swept itself (on_loop (at_boundary l.globals frame (faces_of l))) (free_of l.chunks l.tracks) l.tracks;
+    }
 
 -- what a track gives to the sum, and the track after the frame
 pub record Played : Type 0 where
@@ -33,7 +40,11 @@ played_on p = p.track
 
 -- one frame of a track, for which its loop is ready
 abbrev pub played_ready : Sound → ℕ → ℕ → Loop Sound → Track → Played
-played_ready x gain reach l t = record { given = scaled_sound (heard l) gain; track = record t { loop = after x reach l; gain = gain } }
+played_ready x gain reach l t =
+    record {
+      given = scaled_sound (heard l) gain;
+      track = record t { loop = after x reach l; gain = gain };
+    }
 
 -- one frame of a track with this fade step and input
 abbrev pub played : ℕ → Sound → ℕ → Track → Played
@@ -50,7 +61,11 @@ pub record Framed : Type 0 where
 
 -- one frame whose loops were played
 abbrev pub framed_with : Sound → List Played → ℕ → Looper → Framed
-framed_with x all dry l = record { output = output_of x dry (map given_by all); looper = record l { dry = dry; tracks = map played_on all } }
+framed_with x all dry l =
+    record {
+      output = output_of x dry (map given_by all);
+      looper = record l { dry = dry; tracks = map played_on all };
+    }
 
 -- one frame whose boundaries were met
 abbrev pub framed_from : Sound → Looper → Framed

@@ -1,5 +1,6 @@
 -- A gain is a number of thousandths, from 0 to 1000. At each frame it moves toward its target by at most fade_step.
 -- Each loop's heard frame is scaled by the loop's gain, the input by the dry gain, and the sum of all is clamped once.
+-- "Gains and the mix" in docs/rules.md.
 use Rattle.std.specs.Prelude.{ℕ, ◌+◌, ◌-◌, min, max, List, [], ◌∷◌, nat_le, if◌then◌else◌}
 use Rattle.sl_base.specs.Sounds.{Sound, silence, summed, clamped_sound, scaled_sound}
 

@@ -4,6 +4,7 @@
 -- the tape length at which it was opened while it is open, and the tape length at its closing afterwards.
 -- A closed layer has no fresh cell, no base and 0 base seams. The newest layer is the current one.
 -- What a cell holds is left open: a frame here, and an address where layers share a tape.
+-- "Layers" in docs/rules.md.
 use Rattle.std.specs.Prelude.{ℕ, Bool, true, false, List, [], ◌∷◌, map, length, Option, Some, None, sum_by}
 
 -- one place of a layer

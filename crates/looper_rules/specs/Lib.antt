@@ -1,4 +1,3 @@
-pub mod OneLoop
 pub mod Limits
 pub mod Layers
 pub mod Stack
@@ -23,3 +22,4 @@ pub mod Run
 pub mod States
 pub mod Reached
 pub mod Worked
+pub mod OneLoop

@@ -1,5 +1,6 @@
 -- What one looper may hold: a list has at most 16777216 frames, a loop at most 256 layers and 65536 seams.
 -- Tapes are laid out in chunks of 4096 frames. Counts of refusals end at 2147483647.
+-- "Limits" in docs/rules.md.
 use Rattle.std.specs.Prelude.{ℕ}
 
 -- the most layers of a loop

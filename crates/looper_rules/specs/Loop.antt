@@ -4,6 +4,7 @@
 -- current layer is open. In Off there is no layer. Rounding says that a multiply or an insert goes on to its stop.
 -- The face of a loop is what its verbs, its boundary and its values see of it: no frames.
 -- The count of what was refused stays at 2147483647 once it is there.
+-- "The loop" in docs/rules.md.
 use Rattle.std.specs.Prelude.{ℕ, ◌+◌, min, Bool, true, false, not, length, Option, None, is_some}
 use Rattle.sl_commands.specs.declared.Verb.{Verb}
 use Rattle.sl_commands.specs.declared.Mode.{Mode}
@@ -99,4 +100,19 @@ refused_once l = record l { refused = min (l.refused + 1) max_value }
 
 -- what is seen of a loop
 abbrev pub face_of : {A : Type 0} → Loop A → Face
-face_of l = record { mode = l.deck.mode; rounding = l.deck.rounding; pos = l.deck.pos; backward = l.deck.backward; length = length_of l; cycle = cycle_of l; base = base_length_of l; layers = length l.stack.layers; redo = length l.stack.redo; waiting = l.deck.waiting; press = l.deck.press; refused = l.refused; pinned = is_some l.stack.pin }
+face_of l =
+    record {
+      mode = l.deck.mode;
+      rounding = l.deck.rounding;
+      pos = l.deck.pos;
+      backward = l.deck.backward;
+      length = length_of l;
+      cycle = cycle_of l;
+      base = base_length_of l;
+      layers = length l.stack.layers;
+      redo = length l.stack.redo;
+      waiting = l.deck.waiting;
+      press = l.deck.press;
+      refused = l.refused;
+      pinned = is_some l.stack.pin;
+    }

@@ -11,6 +11,7 @@
 --   the layer closes at its stop. In Playing, Overdubbing, Replacing, Substituting, Muted and OneShot pos goes one on in
 --   its direction, and round at the list's border: then no run goes on, and OneShot becomes Muted.
 --   Off, WaitStart and Paused don't advance.
+-- "One frame of a loop" in docs/rules.md.
 use Rattle.std.specs.Prelude.{ℕ, ◌+◌, ◌-◌, Bool, true, false, List, slice_index_or, nat_le, ◌==◌, if◌then◌else◌}
 use Rattle.sl_base.specs.Sounds.{Sound, silence, summed, clamped_sound, scaled_sound, loudness}
 use Rattle.sl_commands.specs.declared.Mode.{Mode}
@@ -94,7 +95,8 @@ fits reach l = write_fits reach (how_in l.deck.mode l.deck.backward) l.deck.pos 
 
 -- the stack with the input written
 abbrev pub with_input : Sound → Loop Sound → Stack Sound
-with_input x l = written (how_in l.deck.mode l.deck.backward) l.deck.pos (new_frame l.deck.mode l.controls.feedback (sound_at (current_list l.stack.layers) l.deck.pos) x) l.stack
+with_input x l =
+    written (how_in l.deck.mode l.deck.backward) l.deck.pos (new_frame l.deck.mode l.controls.feedback (sound_at (current_list l.stack.layers) l.deck.pos) x) l.stack
 
 -- whether going on in this direction from a place wraps around in a list of this length
 abbrev pub wraps : Bool → ℕ → ℕ → Bool
@@ -118,7 +120,8 @@ wrapped_mode mode = mode
 
 -- the loop one place on, by whether it wraps around
 abbrev pub goes_on : {A : Type 0} → Bool → Loop A → Loop A
-goes_on true l = with_stack (run_broken l.stack) (in_mode_at (wrapped_mode l.deck.mode) (wrapped_place l.deck.backward (length_of l)) l)
+goes_on true l =
+    with_stack (run_broken l.stack) (in_mode_at (wrapped_mode l.deck.mode) (wrapped_place l.deck.backward (length_of l)) l)
 goes_on false l = at_place (next_place l.deck.backward l.deck.pos) l
 
 -- the loop closed, where it rounds and is at its stop

@@ -1,6 +1,7 @@
 -- A looper has its rate, its number of chunks, its own controls, the dry gain, its tracks, and how many saves there were.
 -- A track is a loop with its gain and, while a save pins it, who asked for that save.
 -- What is done to all loops is done in index order, and the chunks that a loop leaves free pass on to the next.
+-- "The looper" in docs/rules.md.
 use Rattle.std.specs.Prelude.{ℕ, zero, suc, ◌+◌, ◌-◌, Bool, List, [], ◌∷◌, map, Option}
 use Rattle.sl_base.specs.Sounds.{Sound}
 use Rattle.sl_commands.specs.declared.Target.{Target}
@@ -54,7 +55,10 @@ reach_of free t = free + chunks_of (tape_of t)
 -- something done to each track in index order, with what it reaches
 abbrev pub swept : {B : Type 0} → (B → Track) → (ℕ → Track → B) → ℕ → List Track → List B
 swept track_of act free [] = []
-swept track_of act free (t ∷ ts) = let reach = reach_of free t in let now = act reach t in now ∷ swept track_of act (reach - chunks_of (tape_of (track_of now))) ts
+swept track_of act free (t ∷ ts) =
+    let reach = reach_of free t
+    in let now = act reach t
+    in now ∷ swept track_of act (reach - chunks_of (tape_of (track_of now))) ts
 
 -- the track itself
 abbrev pub itself : Track → Track
@@ -78,7 +82,10 @@ on_loop act reach t = record t { loop = act reach t.loop }
 
 -- something done to the loops of a target
 abbrev pub on_target : Target → (ℕ → Loop Sound → Loop Sound) → Looper → Looper
-on_target target act l = record l { tracks = at_target target l.globals.selected_loop_num (on_loop act) (free_of l.chunks l.tracks) l.tracks }
+on_target target act l =
+    record l {
+      tracks = at_target target l.globals.selected_loop_num (on_loop act) (free_of l.chunks l.tracks) l.tracks;
+    }
 
 -- the index that a target of one loop names
 abbrev pub index_of : Target → ℕ → ℕ

@@ -6,6 +6,7 @@
 -- A refusal changes nothing. Otherwise the redo layers are dropped, the tape length becomes t, and no run goes on.
 -- A layer that begins empty has no cells, no base, 0 seams and cycle 0. Any other has the current list, not fresh,
 -- that list as its base, and the seams and the cycle of the layer below.
+-- "Opening" in docs/rules.md.
 use Rattle.std.specs.Prelude.{ℕ, ◌+◌, ◌-◌, max, Bool, true, false, List, [], ◌∷◌, None, length, nat_lt, nat_le, if◌then◌else◌}
 use Rattle.sl_commands.specs.declared.Started.{Started}
 use Rattle.sl_commands.specs.declared.Started.TheVariants.{Ok, Layers, Seams, Room}
@@ -31,7 +32,11 @@ first_refusal false false false = Room
 
 -- what becomes of an opening: of an empty layer or of a copy, where the loop reaches so many chunks
 abbrev pub opening : {A : Type 0} → ℕ → Bool → Stack A → Started
-opening reach empty s = first_refusal (nat_le max_layers (length s.layers)) (nat_lt (max_seams - 2) (total_seams s.layers + opening_seams empty s.layers)) (has_room reach (opening_tape s))
+opening reach empty s =
+    first_refusal
+    (nat_le max_layers (length s.layers))
+    (nat_lt (max_seams - 2) (total_seams s.layers + opening_seams empty s.layers))
+    (has_room reach (opening_tape s))
 
 -- an open layer with no cells
 abbrev pub empty_layer : {A : Type 0} → ℕ → Layer A
@@ -39,7 +44,15 @@ empty_layer tape = record { cells = []; base = []; base_seams = 0; cycle = 0; en
 
 -- an open layer that begins as another is
 abbrev pub copied_layer : {A : Type 0} → ℕ → Layer A → Layer A
-copied_layer tape below = record { cells = old_cells (contents below.cells); base = contents below.cells; base_seams = below.seams; cycle = below.cycle; end = tape; seams = below.seams }
+copied_layer tape below =
+    record {
+      cells = old_cells (contents below.cells);
+      base = contents below.cells;
+      base_seams = below.seams;
+      cycle = below.cycle;
+      end = tape;
+      seams = below.seams;
+    }
 
 -- the layer that an opening adds to these
 abbrev pub new_layer : {A : Type 0} → Bool → ℕ → List (Layer A) → Layer A
@@ -49,4 +62,12 @@ new_layer false tape (below ∷ ls) = copied_layer tape below
 
 -- the stack once a layer is opened
 abbrev pub opened : {A : Type 0} → Bool → Stack A → Stack A
-opened empty s = let tape = opening_tape s in record { layers = new_layer empty tape s.layers ∷ s.layers; redo = []; tape = tape; pin = s.pin; run = None }
+opened empty s =
+    let tape = opening_tape s
+    in record {
+      layers = new_layer empty tape s.layers ∷ s.layers;
+      redo = [];
+      tape = tape;
+      pin = s.pin;
+      run = None;
+    }

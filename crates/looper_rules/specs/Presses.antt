@@ -3,6 +3,7 @@
 -- The verbs with a mode are the six writing verbs, `mute` (Muted), `pause` (Paused) and `oneshot` (OneShot).
 -- Giving v: where quantize is 0, or v is one of undo, redo, undo_all, redo_all, mute_on, mute_off and pause, v acts at
 -- once and a verb that waits stays. Otherwise v becomes the verb that waits, in place of another.
+-- "Presses" in docs/rules.md.
 use Rattle.std.specs.Prelude.{ℕ, ◌-◌, Bool, true, false, ◌&&◌, ◌||◌, Option, Some, None, nat_le, ◌==◌, if◌then◌else◌}
 use Rattle.sl_commands.specs.declared.Verb.{Verb}
 use Rattle.sl_commands.specs.declared.Verb.TheVariants.{MuteOn, MuteOff, Pause, Undo, Redo, UndoAll, RedoAll}
@@ -60,7 +61,10 @@ released_long false verb reach l = with_press None l
 
 -- what `up` does at a frame
 abbrev pub released : {A : Type 0} → Verb → ℕ → ℕ → ℕ → Loop A → Loop A
-released verb frame long_press reach l = if is_press_of verb l.deck.press then released_long (is_long frame long_press l.deck.press && is_mode_of verb l.deck.mode) verb reach l else l
+released verb frame long_press reach l =
+    if is_press_of verb l.deck.press
+    then released_long (is_long frame long_press l.deck.press && is_mode_of verb l.deck.mode) verb reach l
+    else l
 
 -- the waiting verb acts, where there is one
 abbrev pub waiting_acts_from : {A : Type 0} → Option Verb → ℕ → Loop A → Loop A

@@ -6,15 +6,12 @@
 -- moment. In the settings a loop in Recording has its length as its cycle.
 -- A release of loop i takes the pin of a loop's save away and answers that save with its outcome. A release of all loops
 -- does so with the pins of a session's save. In other cases nothing happens.
-use Rattle.std.specs.Prelude.{ℕ, ◌+◌, ℤ, pos, negsuc, Bool, true, false, ◌&&◌, ◌||◌, not, List, [], ◌∷◌, map, Option, Some, None, is_some, slice_get, option_and_then, ◌==◌, if◌then◌else◌}
+-- "Saves" in docs/rules.md.
+use Rattle.std.specs.Prelude.{ℕ, Bool, false, ◌||◌, List, [], ◌∷◌, map, Option, Some, None, is_some, ◌==◌, if◌then◌else◌}
 use Rattle.sl_base.specs.Sounds.{Sound}
 use Rattle.sl_commands.specs.declared.Mode.{Mode}
 use Rattle.sl_commands.specs.declared.Mode.TheVariants.{Recording}
 use Rattle.sl_commands.specs.declared.Target.{Target}
-use Rattle.sl_commands.specs.declared.Target.TheVariants.{One, All}
-use Rattle.sl_commands.specs.declared.Reply.{Reply}
-use Rattle.sl_commands.specs.declared.What.{What}
-use Rattle.sl_commands.specs.declared.What.TheVariants.{Save as OfLoop, Session as OfSession}
 use Rattle.sl_commands.specs.declared.StripSettings.{StripSettings}
 use Rattle.sl_commands.specs.Settings.{LooperSettings}
 use Rattle.looper_rules.specs.Layers.{Layer, unmarked, with_current, current_list}
@@ -36,7 +33,12 @@ unmarked_layer l = record l { cells = unmarked l.cells }
 
 -- the stack pinned
 abbrev pub pinned : {A : Type 0} → Stack A → Stack A
-pinned s = record s { layers = with_current unmarked_layer s.layers; pin = Some (record { tape = s.tape; list = current_list s.layers }); run = None }
+pinned s =
+    record s {
+      layers = with_current unmarked_layer s.layers;
+      pin = Some (record { tape = s.tape; list = current_list s.layers });
+      run = None;
+    }
 
 -- the stack without its pin
 abbrev pub unpinned : {A : Type 0} → Stack A → Stack A

@@ -3,6 +3,7 @@
 -- A run is a stretch of writes in one manner, each at the place behind the one before it (before it, where backward).
 -- While it goes on, the place and the manner of the last write are kept. A pin keeps the list that is being saved
 -- and the tape length at its entry: what stands below it on the tape is not written again.
+-- "The stack" in docs/rules.md.
 use Rattle.std.specs.Prelude.{ℕ, List, [], Option, Some, None}
 use Rattle.sl_commands.specs.declared.How.{How}
 use Rattle.looper_rules.specs.Layers.{Layer}

@@ -3,6 +3,7 @@
 -- Starting another writing verb: the loop opens a copy of its list; if that isn't refused, the mode is the verb's, and
 -- pos and direction stay. A refusal leaves the mode, and is counted.
 -- Leaving WaitStart makes the mode Off where there is no layer, else Playing.
+-- "Starting" in docs/rules.md.
 use Rattle.std.specs.Prelude.{ℕ, true, false, List, [], ◌∷◌, nat_lt, if◌then◌else◌}
 use Rattle.sl_commands.specs.declared.Mode.{Mode}
 use Rattle.sl_commands.specs.declared.Mode.TheVariants.{Off, WaitStart, Recording, Playing}
@@ -14,12 +15,19 @@ use Rattle.looper_rules.specs.Loop.{Loop, in_mode, refused_once}
 
 -- the loop opened for `record`, or the refusal counted
 abbrev pub records : {A : Type 0} → Started → Loop A → Loop A
-records Ok l = record l { deck = record l.deck { mode = Recording; pos = 0; backward = false }; stack = opened true l.stack }
+records Ok l =
+    record l {
+      deck = record l.deck { mode = Recording; pos = 0; backward = false };
+      stack = opened true l.stack;
+    }
 records _ l = refused_once l
 
 -- starting `record`
 abbrev pub starts_record : {A : Type 0} → ℕ → Loop A → Loop A
-starts_record reach l = if nat_lt 0 l.controls.rec_thresh then in_mode WaitStart l else records (opening reach true l.stack) l
+starts_record reach l =
+    if nat_lt 0 l.controls.rec_thresh
+    then in_mode WaitStart l
+    else records (opening reach true l.stack) l
 
 -- the loop opened for the writing verb of this mode, or the refusal counted
 abbrev pub layers_on : {A : Type 0} → Started → Mode → Loop A → Loop A

@@ -8,7 +8,8 @@
 -- A run goes on in a writing mode alone, and then the next write is the one that continues it.
 -- Layers and redo layers together are at most 256, with at most 65536 seams; each end and the pin are at most the tape
 -- length. What all tapes use is at most the chunks. A pin stands exactly where someone asked for a save.
-use Rattle.std.specs.Prelude.{◌≡◌, ℕ, ◌+◌, ◌≤◌, ◌<◌, ⊤, Bool, true, false, ◌&&◌, IsTrue, List, [], ◌∷◌, length, map, Option, Some, None, is_some}
+-- "States: what always holds" in docs/rules.md.
+use Rattle.std.specs.Prelude.{◌≡◌, ℕ, ◌+◌, ◌≤◌, ◌<◌, ⊤, Bool, false, IsTrue, List, [], ◌∷◌, length, map, Option, Some, None, is_some}
 use Rattle.std.specs.List.{AllByRecursion}
 use Rattle.sl_commands.specs.declared.Mode.{Mode}
 use Rattle.sl_commands.specs.declared.Mode.TheVariants.{Off, WaitStart, Recording, Playing, Overdubbing, Multiplying, Inserting, Replacing, Muted, OneShot, Substituting, Paused}
@@ -18,9 +19,9 @@ use Rattle.sl_commands.specs.declared.Held.{Held}
 use Rattle.sl_commands.specs.Settings.{max_length, are_globals, is_strip, is_loop_count}
 use Rattle.looper_rules.specs.Limits.{max_layers, max_seams, max_value}
 use Rattle.looper_rules.specs.Layers.{Layer, unmarked, total_seams, current_length}
-use Rattle.looper_rules.specs.Stack.{Stack, LastWrite, Pin, pinned_tape}
+use Rattle.looper_rules.specs.Stack.{Stack, LastWrite, pinned_tape}
 use Rattle.looper_rules.specs.Room.{used}
-use Rattle.looper_rules.specs.Loop.{Loop, Deck}
+use Rattle.looper_rules.specs.Loop.{Loop}
 use Rattle.looper_rules.specs.LoopFrame.{how_in}
 use Rattle.looper_rules.specs.Looper.{Track, Looper, tape_of}
 use Rattle.looper_rules.specs.Saves.{is_pinned, strip_of}
@@ -60,7 +61,7 @@ HasCurrent Kind (l ∷ ls) = Kind l × AreClosed ls
 abbrev pub ArePlayable : {A : Type 0} → List (Layer A) → ℕ → Type 0
 ArePlayable layers pos = AreClosed layers × (pos < current_length layers)
 
--- the layers and pos in Off or Waitstart: none, or they can be played
+-- the layers and pos in Off or WaitStart: none, or they can be played
 abbrev pub AreWaiting : {A : Type 0} → List (Layer A) → ℕ → Type 0
 AreWaiting [] pos = ⊤
 AreWaiting (l ∷ ls) pos = ArePlayable (l ∷ ls) pos

@@ -6,7 +6,8 @@
 -- state is 1 in WaitStart, and in Off where `record` waits; 3 in Recording where a verb waits, and in Multiplying and
 -- Inserting while rounding; else the number of the mode.
 -- A set of a control puts its value in place of the one before.
-use Rattle.std.specs.Prelude.{ℕ, min, ℤ, pos, negsuc, unsigned_abs, Bool, true, false, Option, Some, None, is_some, if◌then◌else◌}
+-- "Values" in docs/rules.md.
+use Rattle.std.specs.Prelude.{ℕ, min, ℤ, pos, negsuc, unsigned_abs, Bool, true, false, Option, Some, is_some, if◌then◌else◌}
 use Rattle.sl_commands.specs.declared.Verb.{Verb}
 use Rattle.sl_commands.specs.declared.Verb.TheVariants.{Rec}
 use Rattle.sl_commands.specs.declared.Mode.{Mode}

@@ -17,6 +17,7 @@
 -- A multiply or insert ends by closing where round is 0, where it is rounding already, or at its stop; else it rounds.
 -- A reverse in Recording, Multiplying and Inserting closes and then turns; in another writing mode it turns, and no run goes on.
 -- In WaitStart `record` only leaves it. Every other verb leaves it first, and then acts from the new mode.
+-- "Verbs" in docs/rules.md.
 use Rattle.std.specs.Prelude.{ℕ, ◌-◌, Bool, true, false, ◌||◌, ◌==◌, if◌then◌else◌}
 use Rattle.sl_commands.specs.declared.Verb.{Verb}
 use Rattle.sl_commands.specs.declared.Verb.TheVariants.{Rec, Overdub, Multiply, Insert, Replace, Substitute, Mute, MuteOn, MuteOff, OneShot, Trigger, Reverse, Pause, Undo, Redo, UndoAll, RedoAll}
@@ -50,7 +51,10 @@ is_mode_of _ _ = false
 
 -- the column for a verb in a mode
 abbrev pub column : Verb → Mode → Column
-column verb mode = if is_off mode then InOff else if is_writing mode then if is_mode_of verb mode then InItsOwn else InAnother else Elsewhere
+column verb mode =
+    if is_off mode then InOff
+    else if is_writing mode then if is_mode_of verb mode then InItsOwn else InAnother
+    else Elsewhere
 
 -- what is done unless the mode is Off
 abbrev pub unless_off : {A : Type 0} → Mode → (Loop A → Loop A) → Loop A → Loop A

@@ -5,6 +5,7 @@
 -- 65534, and, before a place or at the end, the list has fewer than 16777216 frames.
 -- Extending appends the base, not fresh, and adds its seams. It fits where the list then has at most 16777216 frames
 -- and the total seams are at most 65536.
+-- "Writing" in docs/rules.md.
 use Rattle.std.specs.Prelude.{ℕ, ◌+◌, ◌-◌, Bool, true, false, ◌&&◌, ◌||◌, List, [], ◌∷◌, ◌++◌, Some, None, is_some, slice_get, slice_set, insert, nat_lt, nat_le, if◌then◌else◌}
 use Rattle.sl_commands.specs.declared.How.{How}
 use Rattle.sl_commands.specs.declared.How.TheVariants.{Forward, Backward, Insert, Append}
@@ -27,7 +28,10 @@ meets_fresh how place s = overwrites how && is_fresh (slice_get (current_cells s
 
 -- whether a write of a new cell fits
 abbrev pub new_cell_fits : {A : Type 0} → ℕ → How → Stack A → Bool
-new_cell_fits reach how s = has_room reach s.tape && (is_some s.run || nat_le (total_seams s.layers) (max_seams - 2)) && (overwrites how || nat_lt (current_length s.layers) max_length)
+new_cell_fits reach how s =
+    has_room reach s.tape
+    && (is_some s.run || nat_le (total_seams s.layers) (max_seams - 2))
+    && (overwrites how || nat_lt (current_length s.layers) max_length)
 
 -- whether a write fits
 abbrev pub write_fits : {A : Type 0} → ℕ → How → ℕ → Stack A → Bool
@@ -42,7 +46,11 @@ with_cell Append place c cells = cells ++ c ∷ []
 
 -- the layer with a fresh cell more, or in the place of another, and these seams more
 abbrev pub with_written : {A : Type 0} → How → ℕ → A → ℕ → Layer A → Layer A
-with_written how place a seams l = record l { cells = with_cell how place (fresh_cell a) l.cells; seams = l.seams + seams }
+with_written how place a seams l =
+    record l {
+      cells = with_cell how place (fresh_cell a) l.cells;
+      seams = l.seams + seams;
+    }
 
 -- the stack after a write over a fresh cell
 abbrev pub rewritten : {A : Type 0} → How → ℕ → A → Stack A → Stack A
@@ -50,7 +58,12 @@ rewritten how place a s = record s { layers = with_current (with_written how pla
 
 -- the stack after a write that makes a new cell
 abbrev pub newly_written : {A : Type 0} → How → ℕ → A → Stack A → Stack A
-newly_written how place a s = record s { layers = with_current (with_written how place a (if is_some s.run then 0 else 2)) s.layers; tape = s.tape + 1; run = Some (record { place = place; how = how }) }
+newly_written how place a s =
+    record s {
+      layers = with_current (with_written how place a (if is_some s.run then 0 else 2)) s.layers;
+      tape = s.tape + 1;
+      run = Some (record { place = place; how = how });
+    }
 
 -- the stack after a write that fits
 abbrev pub written : {A : Type 0} → How → ℕ → A → Stack A → Stack A
@@ -58,7 +71,9 @@ written how place a s = if meets_fresh how place s then rewritten how place a s 
 
 -- whether the base fits once more
 abbrev pub extension_fits : {A : Type 0} → Stack A → Bool
-extension_fits s = nat_le (current_length s.layers + current_base_length s.layers) max_length && nat_le (total_seams s.layers + current_base_seams s.layers) max_seams
+extension_fits s =
+    nat_le (current_length s.layers + current_base_length s.layers) max_length
+    && nat_le (total_seams s.layers + current_base_seams s.layers) max_seams
 
 -- the layer with its base once more
 abbrev pub with_base : {A : Type 0} → Layer A → Layer A

@@ -4,8 +4,9 @@
 -- The save of a loop has that loop as target and one list, of its index. The save of a session has all loops as target,
 -- and each index in it is below the number of loops in its settings.
 -- Saves are numbered from 0 in the order of their entries, and the blocks of one stand before those of the next.
-use Rattle.std.specs.Prelude.{ℕ, ◌+◌, ◌%◌, Bool, true, false, ◌&&◌, ◌||◌, ◌==◌, nat_le, nat_lt, cond, List, [], ◌∷◌, ◌++◌, length, Option, Some, None, is_some}
+use Rattle.std.specs.Prelude.{◌≡◌, ◌<◌, ℕ, ◌+◌, ◌%◌, Bool, true, false, ◌&&◌, ◌||◌, ◌==◌, nat_le, nat_lt, cond, List, [], ◌∷◌, ◌++◌, length, Option, Some, None, is_some}
 use Rattle.std.specs.Bool.{then_some}
+use Rattle.std.specs.List.{list_all}
 use Rattle.sl_base.specs.Sounds.{Sound}
 use Rattle.sl_commands.specs.declared.command.Target.{Target}
 use Rattle.sl_commands.specs.declared.command.Target.TheVariants.{One, All, Selected}
@@ -23,8 +24,8 @@ parts_behind save index [] [] = []
 parts_behind save index (h ∷ hs) [] = Part save index (h ∷ hs) ∷ []
 parts_behind save index held (x ∷ xs) =
     cond (length held + 1 == part_length)
-      (Part save index (held ++ x ∷ []) ∷ parts_behind save index [] xs)
-      (parts_behind save index (held ++ x ∷ []) xs)
+    (Part save index (held ++ x ∷ []) ∷ parts_behind save index [] xs)
+    (parts_behind save index (held ++ x ∷ []) xs)
 
 -- the parts of a list
 abbrev pub parts_of : ℕ → ℕ → List Sound → List Block
@@ -72,9 +73,9 @@ has_list Selected loops index = false
 abbrev pub may_be_part : Begun → ℕ → ℕ → Bool
 may_be_part b index frames =
     has_list b.target b.loops index
-        && nat_le 1 frames
-        && nat_le frames part_length
-        && (nat_lt b.index index || index == b.index && b.frames % part_length == 0 && nat_le (b.frames + frames) max_length)
+    && nat_le 1 frames
+    && nat_le frames part_length
+    && (nat_lt b.index index || index == b.index && b.frames % part_length == 0 && nat_le (b.frames + frames) max_length)
 
 -- with that part
 abbrev pub with_part : Begun → ℕ → ℕ → Begun
@@ -84,10 +85,10 @@ with_part b index frames = record b { index = index; frames = cond (index == b.i
 abbrev pub place_after : ℕ → Option Begun → Block → Option Place
 place_after saves None (Head save name target settings) =
     then_some (save == saves && is_save_target target)
-      (record { saves = saves; begun = Some (record { target = target; loops = length settings.strips; index = first_index target; frames = 0 }) })
+    (record { saves = saves; begun = Some (record { target = target; loops = length settings.strips; index = first_index target; frames = 0 }) })
 place_after saves (Some b) (Part save index frames) =
     then_some (save == saves && may_be_part b index (length frames))
-      (record { saves = saves; begun = Some (with_part b index (length frames)) })
+    (record { saves = saves; begun = Some (with_part b index (length frames)) })
 place_after saves (Some b) (End save) = then_some (save == saves) (record { saves = saves + 1; begun = None })
 place_after _ _ _ = None
 
@@ -111,11 +112,28 @@ save_of (Head save name target settings) = save
 save_of (Part save index frames) = save
 save_of (End save) = save
 
+-- a save with this target may have this name
+abbrev pub fits_target : Target → List ℕ → Bool
+fits_target All name = nat_le (length name) 48
+fits_target _ name = true
+
 -- the head of a session's save has a session's name
 abbrev pub fits_name : Block → Bool
-fits_name (Head save name All settings) = nat_le (length name) 48
+fits_name (Head save name target settings) = fits_target target name
 fits_name _ = true
 
 -- a block may follow those sent, on a ring for the saves below the bound
 abbrev pub may_follow : List Block → Block → ℕ → Bool
 may_follow sent b bound = is_some (place_of (sent ++ b ∷ [])) && nat_lt (save_of b) bound && fits_name b
+
+-- each block may follow those before it
+abbrev pub may_all_follow : List Block → List Block → ℕ → Bool
+may_all_follow sent [] bound = true
+may_all_follow sent (b ∷ bs) bound = may_follow sent b bound && may_all_follow (sent ++ b ∷ []) bs bound
+
+-- a save is one: its target has as many lists, none is too long, and a session's name leaves room for its files' names
+pub record IsSave (target : Target) (name : List ℕ) (loops : ℕ) (lists : List (List Sound)) : Type 0 where
+  pub kind : is_save_target target ≡ true
+  pub named : fits_target target name ≡ true
+  pub each : (k : ℕ) → k < length lists → has_list target loops (first_index target + k) ≡ true
+  pub short : list_all (λ frames. nat_le (length frames) max_length) lists ≡ true

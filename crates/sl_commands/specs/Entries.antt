@@ -1,7 +1,8 @@
 -- An entry is a command with the frame at which it applies, its sender, and its number among this sender's entries.
 -- Senders are 0 for OSC, 1 for MIDI and 2 for the saver. Releases come from the saver alone, and it sends nothing else.
 -- A list of entries is stamped where frames never fall, and each sender's numbers are 0, 1, 2 and so on in order.
-use Rattle.std.specs.Prelude.{ℕ, Bool, true, ◌&&◌, ◌==◌, nat_le, nat_lt, List, [], ◌∷◌, ◌++◌, length, filter}
+use Rattle.std.specs.Prelude.{◌≡◌, ◌≤◌, ℕ, ◌+◌, Bool, true, ◌&&◌, ◌==◌, nat_le, nat_lt, List, [], ◌∷◌, ◌++◌, length, filter}
+use Rattle.std.specs.List.{list_all}
 use Rattle.sl_commands.specs.declared.command.Command.{Command}
 use Rattle.sl_commands.specs.declared.command.Command.TheVariants.{Release}
 use Rattle.sl_commands.specs.declared.entry.Entry.{Entry}
@@ -18,8 +19,7 @@ is_valid loops e = is_sender e.sender e.command && is_allowed loops e.command
 
 -- each entry is valid
 abbrev pub are_valid : ℕ → List Entry → Bool
-are_valid loops [] = true
-are_valid loops (e ∷ es) = is_valid loops e && are_valid loops es
+are_valid loops es = list_all (is_valid loops) es
 
 -- the entries of one sender, in order
 abbrev pub entries_of : ℕ → List Entry → List Entry
@@ -46,3 +46,18 @@ are_stamped_behind before (e ∷ es) = may_be_next before e && are_stamped_behin
 -- the entries are stamped
 abbrev pub are_stamped : List Entry → Bool
 are_stamped es = are_stamped_behind [] es
+
+-- frames never fall, and none is below the one given
+abbrev pub FramesNeverFall : ℕ → List Entry → Type 0
+FramesNeverFall frame [] = Unit {0}
+FramesNeverFall frame (e ∷ es) = (frame ≤ e.frame) × FramesNeverFall e.frame es
+
+-- the numbers of entries go up by one, from the one given
+abbrev pub AreNumberedFrom : ℕ → List Entry → Type 0
+AreNumberedFrom number [] = Unit {0}
+AreNumberedFrom number (e ∷ es) = (e.seq ≡ number) × AreNumberedFrom (number + 1) es
+
+-- what stamped means, in one sentence: frames never fall, and each sender's numbers are 0, 1, 2 and so on
+pub record IsStamped (es : List Entry) : Type 0 where
+  pub frames : FramesNeverFall 0 es
+  pub numbers : (sender : ℕ) → AreNumberedFrom 0 (entries_of sender es)

@@ -2,7 +2,8 @@
 -- A strip's settings are the length of its list, its cycle, and the values of a loop's controls that can be set.
 -- The rate is 1 to 768000, there are 1 to 16 loops, and each value lies in its control's range.
 -- A length is at most 16777216. The cycle is 1 to the length, or 0 where the length is 0.
-use Rattle.std.specs.Prelude.{ℕ, zero, suc, pos, Bool, true, ◌&&◌, ◌==◌, nat_le, List, [], ◌∷◌, length, replicate}
+use Rattle.std.specs.Prelude.{ℕ, zero, suc, pos, Bool, ◌&&◌, ◌==◌, nat_le, List, length, replicate}
+use Rattle.std.specs.List.{list_all}
 use Rattle.sl_commands.specs.declared.control.Control.TheVariants.{Feedback, Wet, Round, Quantize, RecThresh, Dry, SyncSource, SelectedLoopNum, FadeStep, LongPress, Pulse}
 use Rattle.sl_commands.specs.declared.settings.Globals.{Globals}
 use Rattle.sl_commands.specs.declared.settings.StripSettings.{StripSettings}
@@ -46,8 +47,7 @@ is_strip s =
 
 -- each strip's values do
 abbrev pub are_strips : List StripSettings → Bool
-are_strips [] = true
-are_strips (s ∷ ss) = is_strip s && are_strips ss
+are_strips ss = list_all is_strip ss
 
 -- the rate is one of audio files and sessions
 abbrev pub is_rate : ℕ → Bool

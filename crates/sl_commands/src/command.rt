@@ -114,11 +114,15 @@ impl Command {
         ensures { result ≡ is_allowed loops self.now }
     {
         match self {
-            Command::Down(target, _) | Command::Up(target, _) | Command::Hit(target, _) => target.is_allowed(loops),
+            Command::Down(target, _) | Command::Up(target, _) | Command::Hit(target, _) =>
+                target.is_allowed(loops),
             Command::Set(target, control, value) => {
-                target.is_allowed(loops) && control.is_of_loop() && in_range(*control, *value, loops)
+                target.is_allowed(loops)
+                    && control.is_of_loop()
+                    && in_range(*control, *value, loops)
             }
-            Command::SetGlobal(control, value) => !control.is_of_loop() && in_range(*control, *value, loops),
+            Command::SetGlobal(control, value) => !control.is_of_loop()
+                && in_range(*control, *value, loops),
             Command::Get(target, control) => target.is_single(loops) && control.is_of_loop(),
             Command::GetGlobal(control) => !control.is_of_loop(),
             Command::SaveLoop(target, name) => target.is_single(loops) && is_name(name),

@@ -156,7 +156,13 @@ impl Control {
 pub fn in_range(control: Control, value: i32, loops: u8) -> bool
     ensures { result ≡ is_in_range control value loops }
 {
-    let value = value as i64;
+    is_in_range(control, value as i64, loops)
+}
+
+/// The same for any number.
+pub(crate) fn is_in_range(control: Control, value: i64, loops: u8) -> bool
+    ensures { result ≡ is_in_range control value loops }
+{
     match control.range() {
         Range::ReadOnly => false,
         Range::Between(least, greatest, _) => least as i64 <= value && value <= greatest as i64,
@@ -174,7 +180,10 @@ fn is_named(control: Control, bytes: &[u8]) -> bool
 fn first_named(bytes: &[u8]) -> Option<Control>
     ensures { result ≡ find (has_control_name bytes.now) controls }
 {
-    CONTROLS.iter().copied().find(|control| is_named(*control, bytes))
+    CONTROLS
+        .iter()
+        .copied()
+        .find(|control| is_named(*control, bytes))
 }
 
 /// The control that has these bytes as its name.

@@ -7,6 +7,7 @@ mod control;
 mod entry;
 mod fault;
 mod item;
+pub mod laws;
 mod mode;
 mod reply;
 mod settings;

@@ -1,0 +1,9 @@
+//! The command line: words, files, printing and the top call.
+#![tactic(auto)]
+
+mod console;
+mod status;
+mod words;
+
+pub use status::{FileFault, Status};
+pub use words::{Render, WordsFault, words_of};
