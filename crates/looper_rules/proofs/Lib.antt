@@ -8,3 +8,6 @@ pub mod KeptVerbs
 pub mod KeptPresses
 pub mod KeptWriting
 pub mod KeptLoopFrame
+pub mod KeptTracks
+pub mod KeptSaves
+pub mod KeptSettings

@@ -4,16 +4,20 @@
 -- - the tape takes at most the chunks that the loop reaches;
 -- - verbs and frames leave the controls, the press and whether a pin stands as they were.
 -- A run begins from settings in their ranges, with one list for each strip, of its length, whose chunks are all there.
-use Rattle.std.specs.Prelude.{◌≡◌, ℕ, ◌≤◌, ⊤, Bool, IsTrue, List, [], ◌∷◌, length, map, Option, is_some}
+use Rattle.std.specs.Prelude.{◌≡◌, ℕ, ◌≤◌, pos, ⊤, Bool, IsTrue, List, [], ◌∷◌, length, map, Option, is_some}
+use Rattle.std.specs.List.{AllByRecursion}
 use Rattle.sl_base.specs.Sounds.{Sound}
+use Rattle.sl_commands.specs.declared.Control.TheVariants.{Feedback, Wet, Round, Quantize, RecThresh}
 use Rattle.sl_commands.specs.declared.Held.{Held}
 use Rattle.sl_commands.specs.declared.StripSettings.{StripSettings}
-use Rattle.sl_commands.specs.Settings.{LooperSettings, are_settings}
+use Rattle.sl_commands.specs.Controls.{is_in_range}
+use Rattle.sl_commands.specs.Settings.{LooperSettings, are_settings, are_globals, is_loop_count}
 use Rattle.looper_rules.specs.Limits.{max_value}
 use Rattle.looper_rules.specs.Layers.{Layer, current_end}
 use Rattle.looper_rules.specs.Room.{chunks_of, used}
 use Rattle.looper_rules.specs.Loop.{Controls, Loop}
-use Rattle.looper_rules.specs.States.{InMode, IsRun, IsStack}
+use Rattle.looper_rules.specs.Looper.{Track, Looper, tape_of}
+use Rattle.looper_rules.specs.States.{InMode, IsRun, IsStack, IsPressBefore}
 
 -- no layer ends below the one under it
 abbrev pub AreOrdered : {A : Type 0} → List (Layer A) → Type 0
@@ -44,6 +48,33 @@ pub record Keeps {A : Type 0} (a : Aside) (l : Loop A) : Type 0 where
   pub pinned : is_some l.stack.pin ≡ a.pinned
   pub controls : l.controls ≡ a.controls
   pub press : l.deck.press ≡ a.press
+
+-- a loop's controls lie in their ranges
+pub record AreControls (c : Controls) : Type 0 where
+  pub feedback : IsTrue (is_in_range Feedback (pos c.feedback) 0)
+  pub wet : IsTrue (is_in_range Wet (pos c.wet) 0)
+  pub round : IsTrue (is_in_range Round (pos c.round) 0)
+  pub quantize : IsTrue (is_in_range Quantize (pos c.quantize) 0)
+  pub rec_thresh : IsTrue (is_in_range RecThresh (pos c.rec_thresh) 0)
+
+-- what is left aside of a track that reaches so many chunks: a pin stands where someone asked for a save
+abbrev pub aside_of : ℕ → Track → Aside
+aside_of reach t = record { reach = reach; pinned = is_some t.asker; controls = t.loop.controls; press = t.loop.deck.press }
+
+-- what a track keeps, when so many frames are done
+pub record KeepsTrack (reach frame : ℕ) (t : Track) : Type 0 where
+  pub loop : Keeps (aside_of reach t) t.loop
+  pub controls : AreControls t.loop.controls
+  pub gain : t.gain ≤ 1000
+  pub press : IsPressBefore frame t.loop.deck.press
+
+-- what a looper keeps, when so many frames are done
+pub record KeepsLooper (frame : ℕ) (l : Looper) : Type 0 where
+  pub tracks : AllByRecursion (KeepsTrack l.chunks frame) l.tracks
+  pub count : IsTrue (is_loop_count (length l.tracks))
+  pub globals : IsTrue (are_globals (length l.tracks) l.globals)
+  pub dry : l.dry ≤ 1000
+  pub used_chunks : used (map tape_of l.tracks) ≤ l.chunks
 
 -- the length that a strip tells
 abbrev pub strip_length : StripSettings → ℕ
