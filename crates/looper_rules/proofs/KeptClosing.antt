@@ -1,19 +1,17 @@
 -- A loop that closes its layer keeps what it has to keep.
-use Rattle.std.proofs.Common.{◌≡◌, ℕ, suc, ◌+◌, ◌-◌, ◌%◌, ◌≤◌, ◌<◌, min, Bool, true, false, List, [], ◌∷◌, length, take, Option, Some, None, refl, sym, ap, ◌∙◌, subst, arith, nat_le, nat_lt, eqb, ltb, leb-true, ltb-true, is_some, cond}
+use Rattle.std.proofs.Common.{◌≡◌, ℕ, suc, ◌+◌, ◌%◌, ◌≤◌, ◌<◌, Bool, true, false, List, [], ◌∷◌, length, take, Option, Some, None, refl, sym, ◌∙◌, subst, arith, nat_le, nat_lt, leb-true, ltb-true}
 use Rattle.std.specs.Prelude.{⊤, ◌==◌}
 use Rattle.std.proofs.lemmas.List.{length-take, length-take-le}
 use Rattle.std.proofs.lemmas.Bool.{cond_both, eqb-false, leb-false}
 use Rattle.std.proofs.lemmas.Bool.Decides.{nat_tests}
 use Rattle.std.proofs.Math.Nat.{mod-lt}
 use Rattle.sl_commands.specs.declared.Mode.{Mode}
-use Rattle.sl_commands.specs.declared.Mode.TheVariants.{Off, WaitStart, Recording, Playing, Overdubbing, Multiplying, Inserting, Replacing, Muted, OneShot, Substituting, Paused}
+use Rattle.sl_commands.specs.declared.Mode.TheVariants.{Off, Recording, Playing, Overdubbing, Multiplying, Inserting, Replacing, Substituting}
 use Rattle.sl_commands.specs.Settings.{max_length}
-use Rattle.looper_rules.specs.Limits.{max_layers, max_seams}
 use Rattle.looper_rules.specs.Layers.{Cell, Layer, unmarked, total_seams, with_current, without_current, current_length, current_base_length, current_end}
-use Rattle.looper_rules.specs.Stack.{Stack}
 use Rattle.looper_rules.specs.Loop.{Loop, is_writing, length_of, base_length_of}
-use Rattle.looper_rules.specs.Closing.{cut_cells, closing_cycle, closed_layer, finished_layer, finished, dropped, closes_as, closed_recording, multiply_cut, closed_multiplying, closed_from, closed}
-use Rattle.looper_rules.specs.States.{IsClosed, IsRecorded, IsOpenOver, AreClosed, HasCurrent, ArePlayable, AreWritten, InMode, AreWithin, IsStack}
+use Rattle.looper_rules.specs.Closing.{closing_cycle, closed_layer, finished_layer, finished, dropped, closes_as, closed_recording, multiply_cut, closed_from, closed}
+use Rattle.looper_rules.specs.States.{IsClosed, IsRecorded, IsOpenOver, AreClosed, HasCurrent, ArePlayable, InMode, AreWithin}
 use Rattle.looper_rules.specs.Reached.{AreOrdered, GoOnFrom, Aside, Keeps}
 use Rattle.looper_rules.proofs.KeptDecks.{no_run}
 use Rattle.looper_rules.proofs.KeptLayers.{length-unmarked, unmarked-unmarked, total_seams-cons, length-with_current}

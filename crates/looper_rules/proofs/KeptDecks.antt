@@ -1,9 +1,8 @@
 -- A loop keeps what it has to keep where only its deck, its run or its count of refusals changes.
-use Rattle.std.proofs.Common.{◌≡◌, ℕ, ◌+◌, ◌≤◌, min, List, Option, Some, None, is_some, Bool, refl, arith, ◌∙◌}
+use Rattle.std.proofs.Common.{◌≡◌, ℕ, ◌+◌, ◌≤◌, min, Option, None, Bool, refl, arith, ◌∙◌}
 use Rattle.sl_commands.specs.declared.Mode.{Mode}
-use Rattle.sl_commands.specs.declared.Mode.TheVariants.{Off, WaitStart, Recording, Playing, Overdubbing, Multiplying, Inserting, Replacing, Muted, OneShot, Substituting, Paused}
+use Rattle.sl_commands.specs.declared.Mode.TheVariants.{Recording, Overdubbing, Multiplying, Inserting, Replacing, Substituting}
 use Rattle.looper_rules.specs.Limits.{max_value}
-use Rattle.looper_rules.specs.Layers.{Layer}
 use Rattle.looper_rules.specs.Stack.{Stack, LastWrite}
 use Rattle.looper_rules.specs.Loop.{Deck, Loop, refused_once}
 use Rattle.looper_rules.specs.States.{InMode, IsRun, IsStack}

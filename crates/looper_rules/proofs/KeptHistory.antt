@@ -1,19 +1,17 @@
 -- A loop keeps what it has to keep through undo and redo.
-use Rattle.std.proofs.Common.{◌≡◌, ℕ, ◌+◌, ◌%◌, ◌≤◌, ◌<◌, Bool, true, false, List, [], ◌∷◌, length, Option, Some, None, refl, sym, subst, arith}
-use Rattle.std.specs.Prelude.{⊤}
+use Rattle.std.proofs.Common.{◌≡◌, ℕ, ◌%◌, Bool, true, false, List, [], ◌∷◌, length, None, refl, arith}
 use Rattle.std.proofs.Math.Nat.{mod-lt}
 use Rattle.sl_commands.specs.declared.Mode.{Mode}
 use Rattle.sl_commands.specs.declared.Mode.TheVariants.{Off, WaitStart, Recording, Playing, Overdubbing, Multiplying, Inserting, Replacing, Muted, OneShot, Substituting, Paused}
-use Rattle.looper_rules.specs.Layers.{Layer, total_seams, current_end, current_length}
-use Rattle.looper_rules.specs.Stack.{Stack}
-use Rattle.looper_rules.specs.Loop.{Loop, is_writing, is_off, length_of}
-use Rattle.looper_rules.specs.History.{closed_if, settled, stepped_back, undo, redo, redo_from, undo_each, undo_all, redo_each, redo_all}
-use Rattle.looper_rules.specs.States.{IsClosed, AreClosed, ArePlayable, InMode, IsRun, AreWithin, IsStack}
-use Rattle.looper_rules.specs.Reached.{AreOrdered, GoOnFrom, Aside, Keeps}
+use Rattle.looper_rules.specs.Layers.{Layer}
+use Rattle.looper_rules.specs.Loop.{Loop, is_writing, is_off}
+use Rattle.looper_rules.specs.History.{closed_if, settled, stepped_back, undo, redo, undo_each, undo_all, redo_each, redo_all}
+use Rattle.looper_rules.specs.States.{AreClosed, InMode, IsRun}
+use Rattle.looper_rules.specs.Reached.{Aside, Keeps}
 use Rattle.looper_rules.proofs.KeptDecks.{with_deck}
 use Rattle.looper_rules.proofs.KeptLayers.{total_seams-cons}
 use Rattle.looper_rules.proofs.KeptClosing.{closed_keeps, closed_leads, IsClosedMode}
-use Rattle.looper_rules.proofs.KeptRest.{closed_layers, closed_redo, waiting_layers, quiet_run, run_in_quiet, in_quiet}
+use Rattle.looper_rules.proofs.KeptRest.{closed_layers, closed_redo, quiet_run, run_in_quiet, in_quiet}
 
 -- the loop in this mode, with these layers and redo layers
 abbrev pub so : {A : Type 0} → Mode → List (Layer A) → List (Layer A) → Loop A → Loop A

@@ -1,13 +1,11 @@
 -- What holds of some layers holds of the layers with one more, one less, or the current one changed.
-use Rattle.std.proofs.Common.{◌≡◌, ℕ, ◌+◌, ◌/◌, ◌≤◌, ◌<◌, List, [], ◌∷◌, length, map, refl, sym, ap, ◌∙◌, subst, arith}
+use Rattle.std.proofs.Common.{◌≡◌, ℕ, ◌+◌, ◌≤◌, List, [], ◌∷◌, length, refl, sym, ap, ◌∙◌, arith}
 use Rattle.std.proofs.lemmas.List.{length-map}
 use Rattle.std.proofs.lemmas.List.Sums.{sum_by-cons}
-use Rattle.std.specs.List.{AllByRecursion}
-use Rattle.sl_commands.specs.Settings.{max_length}
-use Rattle.looper_rules.specs.Layers.{Cell, Layer, content_of, old_cell, contents, old_cells, unmarked, seams_of, total_seams, with_current, without_current, current_cells, current_length, current_end}
+use Rattle.looper_rules.specs.Layers.{Cell, Layer, content_of, old_cell, contents, old_cells, unmarked, seams_of, total_seams, with_current, current_length, current_end}
 use Rattle.looper_rules.specs.Room.{chunks_of}
-use Rattle.looper_rules.specs.States.{IsClosed, AreClosed, HasCurrent, ArePlayable, AreWithin}
-use Rattle.looper_rules.specs.Reached.{AreOrdered, GoOnFrom}
+use Rattle.looper_rules.specs.States.{AreClosed, AreWithin}
+use Rattle.looper_rules.specs.Reached.{AreOrdered}
 
 -- the cells of a list have the list
 pub contents-old_cells : {A : Type 0} (list : List A) → contents (old_cells list) ≡ list

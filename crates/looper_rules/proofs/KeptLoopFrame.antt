@@ -1,7 +1,7 @@
 -- A loop keeps what it has to keep through a frame.
-use Rattle.std.proofs.Common.{◌≡◌, ℕ, ◌+◌, ◌-◌, ◌≤◌, ◌<◌, Bool, true, false, ◌||◌, List, [], ◌∷◌, length, Option, Some, None, is_some, refl, inl, inr, sym, ◌∙◌, subst, arith, cond, nat_le}
-use Rattle.std.specs.Prelude.{⊤, ◌==◌, ◌⊎◌, if◌then◌else◌}
-use Rattle.std.proofs.lemmas.Bool.{cond_both, or_cases, eqb-true, eqb-false}
+use Rattle.std.proofs.Common.{◌≡◌, ℕ, ◌+◌, ◌≤◌, ◌<◌, Bool, true, false, ◌||◌, List, Option, Some, None, is_some, refl, sym, subst, arith, nat_le}
+use Rattle.std.specs.Prelude.{⊤, ◌==◌, if◌then◌else◌}
+use Rattle.std.proofs.lemmas.Bool.{cond_both, eqb-false}
 use Rattle.sl_base.specs.Sounds.{Sound, loudness}
 use Rattle.sl_commands.specs.declared.Mode.{Mode}
 use Rattle.sl_commands.specs.declared.Mode.TheVariants.{Off, WaitStart, Recording, Playing, Overdubbing, Multiplying, Inserting, Replacing, Muted, OneShot, Substituting, Paused}
@@ -10,14 +10,14 @@ use Rattle.sl_commands.specs.declared.How.TheVariants.{Forward, Backward, Insert
 use Rattle.sl_commands.specs.declared.Started.{Started}
 use Rattle.sl_commands.specs.declared.Started.TheVariants.{Ok}
 use Rattle.looper_rules.specs.Layers.{Layer, current_length, current_list}
-use Rattle.looper_rules.specs.Stack.{Stack, LastWrite, run_broken}
+use Rattle.looper_rules.specs.Stack.{LastWrite, run_broken}
 use Rattle.looper_rules.specs.Opening.{opening}
-use Rattle.looper_rules.specs.Writing.{overwrites, meets_fresh, new_cell_fits, write_fits, rewritten, newly_written, written, extension_fits}
-use Rattle.looper_rules.specs.Loop.{Deck, Loop, is_writing, length_of, at_place, in_mode_at, refused_once, with_stack}
+use Rattle.looper_rules.specs.Writing.{overwrites, meets_fresh, new_cell_fits, rewritten, newly_written, written, extension_fits}
+use Rattle.looper_rules.specs.Loop.{Loop, is_writing, length_of, at_place, refused_once, with_stack}
 use Rattle.looper_rules.specs.Closing.{closed, at_stop}
-use Rattle.looper_rules.specs.Starting.{records, leaves_wait}
-use Rattle.looper_rules.specs.LoopFrame.{wakes_as, awake_in, awake, stopped, extends, ready_in, ready, sound_at, new_frame, how_in, fits, with_input, wraps, wrapped_place, next_place, wrapped_mode, goes_on, stops_if, lengthens, advanced_in, advanced, overrun_in, writes, passes, after}
-use Rattle.looper_rules.specs.States.{IsRecorded, IsOpenOver, AreClosed, HasCurrent, ArePlayable, AreWritten, InMode, IsBehind, GoesOn, IsRun}
+use Rattle.looper_rules.specs.Starting.{records}
+use Rattle.looper_rules.specs.LoopFrame.{wakes_as, awake_in, awake, stopped, extends, ready_in, ready, sound_at, new_frame, how_in, fits, wraps, wrapped_place, next_place, wrapped_mode, goes_on, stops_if, advanced, overrun_in, writes, passes, after}
+use Rattle.looper_rules.specs.States.{IsRecorded, IsOpenOver, AreWritten, InMode, IsBehind, GoesOn, IsRun}
 use Rattle.looper_rules.specs.Reached.{Aside, Keeps}
 use Rattle.looper_rules.proofs.KeptDecks.{with_deck, refused_keeps, no_run}
 use Rattle.looper_rules.proofs.KeptOpening.{opens_record}

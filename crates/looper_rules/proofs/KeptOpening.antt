@@ -1,21 +1,21 @@
 -- A loop that opens a layer keeps what it has to keep.
-use Rattle.std.proofs.Common.{◌≡◌, ℕ, suc, ◌+◌, ◌-◌, ◌≤◌, ◌<◌, max, Bool, true, false, List, [], ◌∷◌, length, Some, None, refl, sym, ap, ◌∙◌, subst, arith, nat_le, nat_lt, ltb-false, leb-false}
+use Rattle.std.proofs.Common.{◌≡◌, ℕ, ◌+◌, ◌-◌, ◌≤◌, ◌<◌, Bool, true, false, List, [], ◌∷◌, length, refl, arith, ltb-false, leb-false}
 use Rattle.std.specs.Prelude.{⊤}
 use Rattle.std.proofs.lemmas.List.{length-map}
 use Rattle.sl_commands.specs.declared.Mode.{Mode}
-use Rattle.sl_commands.specs.declared.Mode.TheVariants.{Off, WaitStart, Recording, Playing, Overdubbing, Multiplying, Inserting, Replacing, Substituting}
+use Rattle.sl_commands.specs.declared.Mode.TheVariants.{Overdubbing, Multiplying, Inserting, Replacing, Substituting}
 use Rattle.sl_commands.specs.declared.Started.{Started}
-use Rattle.sl_commands.specs.declared.Started.TheVariants.{Ok, Layers, Seams, Room}
+use Rattle.sl_commands.specs.declared.Started.TheVariants.{Ok}
 use Rattle.sl_commands.specs.Settings.{max_length}
 use Rattle.looper_rules.specs.Limits.{max_layers, max_seams}
-use Rattle.looper_rules.specs.Layers.{Layer, old_cell, contents, content_of, total_seams, current_length, current_end, current_seams}
+use Rattle.looper_rules.specs.Layers.{Layer, total_seams, current_length, current_end}
 use Rattle.looper_rules.specs.Stack.{Stack, pinned_tape}
-use Rattle.looper_rules.specs.Room.{chunks_of, has_room}
+use Rattle.looper_rules.specs.Room.{chunks_of}
 use Rattle.looper_rules.specs.Opening.{opening_tape, opening_seams, first_refusal, opening, new_layer, opened}
-use Rattle.looper_rules.specs.Loop.{Loop, refused_once}
+use Rattle.looper_rules.specs.Loop.{Loop}
 use Rattle.looper_rules.specs.Starting.{records, layers_on, starts}
-use Rattle.looper_rules.specs.States.{IsClosed, IsRecorded, IsOpenOver, AreClosed, HasCurrent, ArePlayable, AreWritten, InMode, IsRun, AreWithin, IsStack}
-use Rattle.looper_rules.specs.Reached.{AreOrdered, GoOnFrom, Aside, Keeps}
+use Rattle.looper_rules.specs.States.{IsOpenOver, AreClosed, ArePlayable, AreWritten, InMode, AreWithin, IsStack}
+use Rattle.looper_rules.specs.Reached.{AreOrdered, Aside, Keeps}
 use Rattle.looper_rules.proofs.KeptDecks.{refused_keeps, no_run}
 use Rattle.looper_rules.proofs.KeptLayers.{length-unmarked, total_seams-cons, chunks_of_le, current_end_within, ordered_within}
 

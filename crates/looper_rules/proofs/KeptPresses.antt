@@ -1,11 +1,11 @@
 -- A loop keeps what it has to keep through presses, and through verbs that wait.
-use Rattle.std.proofs.Common.{◌≡◌, ℕ, ◌≤◌, Bool, true, false, Option, Some, None, refl, sym, subst}
-use Rattle.std.specs.Prelude.{⊤, ◌==◌, ◌&&◌, ◌||◌}
+use Rattle.std.proofs.Common.{ℕ, Bool, true, false, Option, Some, None, refl, sym, subst}
+use Rattle.std.specs.Prelude.{◌==◌, ◌&&◌, ◌||◌}
 use Rattle.std.proofs.lemmas.Bool.{cond_both}
 use Rattle.sl_commands.specs.declared.Verb.{Verb}
 use Rattle.sl_commands.specs.declared.Held.{Held}
 use Rattle.looper_rules.specs.Loop.{Loop}
-use Rattle.looper_rules.specs.Verbs.{is_mode_of, acts}
+use Rattle.looper_rules.specs.Verbs.{is_mode_of}
 use Rattle.looper_rules.specs.Presses.{never_waits, with_waiting, with_press, given_at_once, given, pressed, is_press_of, is_long, released_long, released, waiting_acts_from, waiting_acts}
 use Rattle.looper_rules.specs.States.{IsPressBefore}
 use Rattle.looper_rules.specs.Reached.{Aside, Keeps}

@@ -1,11 +1,11 @@
 -- What a loop keeps in modes that don't write, and how it goes from one of them to another.
-use Rattle.std.proofs.Common.{◌≡◌, ℕ, ◌+◌, ◌≤◌, ◌<◌, Bool, true, false, List, [], ◌∷◌, length, Option, Some, None, refl, sym, subst, arith}
+use Rattle.std.proofs.Common.{◌≡◌, ℕ, ◌<◌, Bool, true, false, List, [], ◌∷◌, Option, None, refl, sym, subst}
 use Rattle.std.specs.Prelude.{⊤}
 use Rattle.sl_commands.specs.declared.Mode.{Mode}
 use Rattle.sl_commands.specs.declared.Mode.TheVariants.{Off, WaitStart, Recording, Playing, Overdubbing, Multiplying, Inserting, Replacing, Muted, OneShot, Substituting, Paused}
-use Rattle.looper_rules.specs.Layers.{Layer, current_length}
-use Rattle.looper_rules.specs.Stack.{Stack, LastWrite}
-use Rattle.looper_rules.specs.Loop.{Loop, is_writing, is_off, length_of, in_mode}
+use Rattle.looper_rules.specs.Layers.{Layer}
+use Rattle.looper_rules.specs.Stack.{LastWrite}
+use Rattle.looper_rules.specs.Loop.{Loop, is_writing, is_off, length_of}
 use Rattle.looper_rules.specs.States.{AreClosed, ArePlayable, AreWaiting, InMode, IsRun}
 use Rattle.looper_rules.specs.Reached.{Aside, Keeps}
 use Rattle.looper_rules.proofs.KeptDecks.{with_deck}

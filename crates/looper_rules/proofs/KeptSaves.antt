@@ -1,16 +1,13 @@
 -- A track keeps what it has to keep where a save pins its loop, and where a release ends the save.
-use Rattle.std.proofs.Common.{◌≡◌, ℕ, ◌+◌, ◌≤◌, ◌<◌, Bool, true, false, List, [], ◌∷◌, length, Option, Some, None, is_some, refl, sym, ◌∙◌, subst, arith}
-use Rattle.std.specs.Prelude.{⊤}
+use Rattle.std.proofs.Common.{◌≡◌, ℕ, ◌≤◌, Bool, true, false, List, [], ◌∷◌, Option, Some, None, refl, sym, ◌∙◌, subst, arith}
 use Rattle.sl_commands.specs.declared.Mode.{Mode}
-use Rattle.sl_commands.specs.declared.Mode.TheVariants.{Off, WaitStart, Recording, Playing, Overdubbing, Multiplying, Inserting, Replacing, Muted, OneShot, Substituting, Paused}
-use Rattle.sl_commands.specs.Settings.{max_length}
-use Rattle.looper_rules.specs.Layers.{Cell, Layer, unmarked, total_seams, with_current, current_length, current_end}
-use Rattle.looper_rules.specs.Stack.{Stack}
+use Rattle.sl_commands.specs.declared.Mode.TheVariants.{Off, WaitStart, Recording, Overdubbing, Multiplying, Inserting, Replacing, Substituting}
+use Rattle.looper_rules.specs.Layers.{Layer, total_seams, with_current, current_length, current_end}
 use Rattle.looper_rules.specs.Loop.{Loop, with_stack}
 use Rattle.looper_rules.specs.Looper.{Asker, Track, tape_of}
 use Rattle.looper_rules.specs.Saves.{unmarked_layer, pinned, unpinned, pinned_for, freed, loop_asker, session_asker, freed_if, loop_released, session_released}
 use Rattle.looper_rules.specs.States.{IsClosed, IsRecorded, IsOpenOver, AreClosed, HasCurrent, ArePlayable, AreWaiting, AreWritten, InMode, AreWithin}
-use Rattle.looper_rules.specs.Reached.{AreOrdered, GoOnFrom, Aside, Keeps, KeepsTrack, aside_of}
+use Rattle.looper_rules.specs.Reached.{AreOrdered, GoOnFrom, Aside, Keeps}
 use Rattle.looper_rules.proofs.KeptDecks.{no_run}
 use Rattle.looper_rules.proofs.KeptLayers.{length-unmarked, unmarked-unmarked, total_seams-cons, length-with_current}
 use Rattle.looper_rules.proofs.KeptTracks.{KeepsTracks}

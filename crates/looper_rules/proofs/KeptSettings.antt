@@ -1,9 +1,9 @@
 -- Controls stay in their ranges where a valid entry sets one.
-use Rattle.std.proofs.Common.{◌≡◌, ℕ, Bool, true, false, refl, nat_le}
-use Rattle.std.specs.Prelude.{◌&&◌, ℤ, pos, negsuc, IsTrue, unsigned_abs}
+use Rattle.std.proofs.Common.{◌≡◌, ℕ, Bool, true, nat_le}
+use Rattle.std.specs.Prelude.{◌&&◌, ℤ, pos, negsuc, unsigned_abs}
 use Rattle.std.proofs.lemmas.Bool.{and_parts, and_from}
 use Rattle.sl_commands.specs.declared.Control.{Control}
-use Rattle.sl_commands.specs.declared.Control.TheVariants.{Feedback, Wet, Round, Quantize, RecThresh, State, LoopLen, LoopPos, CycleLen, Waiting, Layers, RedoLayers, Refused, Reversed, FreeTime, Dry, SyncSource, SelectedLoopNum, FadeStep, LongPress, Pulse}
+use Rattle.sl_commands.specs.declared.Control.TheVariants.{Feedback, Wet, Round, Quantize, RecThresh, Dry, SyncSource, SelectedLoopNum, FadeStep, LongPress, Pulse}
 use Rattle.sl_commands.specs.declared.Globals.{Globals}
 use Rattle.sl_commands.specs.Controls.{is_in_range}
 use Rattle.sl_commands.specs.Settings.{are_globals}

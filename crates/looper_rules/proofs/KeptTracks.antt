@@ -1,6 +1,5 @@
 -- A track keeps what it has to keep where something is done to its loop, and all tracks do so in a sweep.
-use Rattle.std.proofs.Common.{◌≡◌, ℕ, zero, suc, ◌+◌, ◌-◌, ◌≤◌, ◌<◌, min, max, Bool, true, false, List, [], ◌∷◌, length, map, Option, Some, None, is_some, refl, sym, ap, ◌∙◌, subst, arith, cond, nat_le, leb-true}
-use Rattle.std.specs.Prelude.{⊤, ◌==◌, IsTrue, pos}
+use Rattle.std.proofs.Common.{◌≡◌, ℕ, zero, suc, ◌+◌, ◌-◌, ◌≤◌, min, max, List, [], ◌∷◌, length, map, Option, Some, None, refl, sym, ap, subst, arith, nat_le, leb-true}
 use Rattle.std.proofs.lemmas.Bool.{cond_both, and_parts}
 use Rattle.std.proofs.lemmas.List.Sums.{sum_by-cons}
 use Rattle.std.specs.List.{AllByRecursion}
@@ -8,14 +7,13 @@ use Rattle.sl_base.specs.Sounds.{Sound}
 use Rattle.sl_commands.specs.declared.Face.{Face}
 use Rattle.sl_commands.specs.declared.Globals.{Globals}
 use Rattle.sl_commands.specs.declared.Held.{Held}
-use Rattle.looper_rules.specs.Layers.{Layer}
 use Rattle.looper_rules.specs.Room.{chunks_of, used}
 use Rattle.looper_rules.specs.Loop.{Controls, Loop}
 use Rattle.looper_rules.specs.Presses.{waiting_acts}
 use Rattle.looper_rules.specs.Boundaries.{is_boundary}
 use Rattle.looper_rules.specs.Gains.{gain_after}
-use Rattle.looper_rules.specs.Looper.{Track, tape_of, reach_of, swept, itself, at_index, on_loop}
-use Rattle.looper_rules.specs.Frame.{at_boundary, Played, played_on, played}
+use Rattle.looper_rules.specs.Looper.{Track, tape_of, reach_of, swept, at_index, on_loop}
+use Rattle.looper_rules.specs.Frame.{at_boundary, played_on, played}
 use Rattle.looper_rules.specs.States.{IsPressBefore}
 use Rattle.looper_rules.specs.Reached.{Aside, Keeps, AreControls, aside_of, KeepsTrack}
 use Rattle.looper_rules.proofs.KeptPresses.{waiting_acts_keeps}
@@ -131,7 +129,7 @@ pub gain_within : (gain target step : ℕ) → gain ≤ 1000 → target ≤ 1000
 gain_within gain target step from to = cond_both (nat_le gain target) (min target (gain + step)) (max target (gain - step)) (λ g. g ≤ 1000) (λ up. omega arith) (λ down. omega arith)
 
 -- wet is at most 1000
-wet_within : (c : Controls) → AreControls c → c.wet ≤ 1000
+pub wet_within : (c : Controls) → AreControls c → c.wet ≤ 1000
 wet_within c h = leb-true c.wet 1000 (and_parts (nat_le 0 c.wet) (nat_le c.wet 1000) h.wet).1
 
 -- a frame of a track

@@ -1,21 +1,20 @@
 -- A loop keeps what it has to keep through every verb in every mode.
-use Rattle.std.proofs.Common.{◌≡◌, ℕ, ◌+◌, ◌-◌, ◌≤◌, ◌<◌, Bool, true, false, not, List, [], ◌∷◌, length, Option, Some, None, refl, sym, ◌∙◌, subst, arith, cond}
+use Rattle.std.proofs.Common.{◌≡◌, ℕ, ◌<◌, Bool, true, false, not, List, [], ◌∷◌, None, refl, sym, subst, arith}
 use Rattle.std.specs.Prelude.{⊤, ◌==◌, ◌||◌, nat_lt, if◌then◌else◌}
 use Rattle.std.proofs.lemmas.Bool.{cond_both}
 use Rattle.sl_commands.specs.declared.Verb.{Verb}
 use Rattle.sl_commands.specs.declared.Verb.TheVariants.{Rec, Overdub, Multiply, Insert, Replace, Substitute, Mute, MuteOn, MuteOff, OneShot, Trigger, Reverse, Pause, Undo, Redo, UndoAll, RedoAll}
 use Rattle.sl_commands.specs.declared.Mode.{Mode}
 use Rattle.sl_commands.specs.declared.Mode.TheVariants.{Off, WaitStart, Recording, Playing, Overdubbing, Multiplying, Inserting, Replacing, Muted, OneShot as PlayingOnce, Substituting, Paused}
-use Rattle.looper_rules.specs.Layers.{Layer, current_length}
-use Rattle.looper_rules.specs.Stack.{run_broken}
+use Rattle.looper_rules.specs.Layers.{Layer}
 use Rattle.looper_rules.specs.Opening.{opening}
-use Rattle.looper_rules.specs.Loop.{Loop, is_writing, length_of, in_mode, turned, rounds, with_stack}
+use Rattle.looper_rules.specs.Loop.{Loop, is_writing, length_of, in_mode, turned, rounds}
 use Rattle.looper_rules.specs.Closing.{closed, closed_from, closed_recording, at_stop}
 use Rattle.looper_rules.specs.Starting.{starts_record, starts, records, mode_after_wait, leaves_wait}
-use Rattle.looper_rules.specs.Verbs.{Column, InOff, InItsOwn, InAnother, Elsewhere, is_mode_of, column, unless_off, closes_then, mute_toggled, unmuted, pause_toggled, start_place, plays_from_start, ends, reversed_in, record_row, layer_row, length_row, mute_row, mute_on_row, mute_off_row, pause_row, start_row, reverse_row, row, acts_in, acts_waiting, acts_from, acts}
-use Rattle.looper_rules.specs.States.{AreClosed, ArePlayable, AreWaiting, AreWritten, InMode, IsRun}
+use Rattle.looper_rules.specs.Verbs.{Column, InOff, InItsOwn, InAnother, Elsewhere, is_mode_of, column, unless_off, closes_then, mute_toggled, unmuted, pause_toggled, start_place, plays_from_start, ends, reversed_in, record_row, layer_row, length_row, mute_row, mute_on_row, mute_off_row, pause_row, start_row, reverse_row, row, acts_in, acts_waiting, acts}
+use Rattle.looper_rules.specs.States.{AreClosed, AreWaiting, InMode}
 use Rattle.looper_rules.specs.Reached.{Aside, Keeps}
-use Rattle.looper_rules.proofs.KeptDecks.{with_deck, no_run}
+use Rattle.looper_rules.proofs.KeptDecks.{with_deck}
 use Rattle.looper_rules.proofs.KeptOpening.{IsLayering, records_keeps, starts_keeps}
 use Rattle.looper_rules.proofs.KeptClosing.{closed_keeps, closed_leads, IsClosedMode}
 use Rattle.looper_rules.proofs.KeptRest.{closed_layers, closed_redo, waiting_layers, quiet_run, run_in_quiet, IsResting, resting_is_quiet, playable, rests_again, resting_inside}

@@ -1,22 +1,20 @@
 -- A loop whose open layer gets a cell, or its base once more, keeps what it has to keep.
-use Rattle.std.proofs.Common.{◌≡◌, ℕ, ◌+◌, ◌-◌, ◌/◌, ◌%◌, ◌≤◌, ◌<◌, Bool, true, false, not, ◌||◌, ◌&&◌, List, [], ◌∷◌, length, Option, Some, None, is_some, refl, inl, inr, sym, ◌∙◌, subst, arith, cond, nat_le, nat_lt, ltb-true, leb-true}
-use Rattle.std.specs.Prelude.{⊤, ◌==◌, ◌⊎◌}
-use Rattle.std.proofs.lemmas.Bool.{cond_both, or_cases, and_parts, not-true, eqb-false}
+use Rattle.std.proofs.Common.{◌≡◌, ℕ, ◌+◌, ◌-◌, ◌%◌, ◌≤◌, ◌<◌, Bool, true, false, not, ◌||◌, ◌&&◌, List, [], ◌∷◌, length, Option, is_some, refl, inl, inr, sym, ◌∙◌, subst, arith, cond, nat_le, nat_lt, ltb-true, leb-true}
+use Rattle.std.specs.Prelude.{◌==◌}
+use Rattle.std.proofs.lemmas.Bool.{or_cases, and_parts, not-true, eqb-false}
 use Rattle.std.proofs.lemmas.List.{length-set, length-append, length-map, length_push}
 use Rattle.std.proofs.lemmas.List.Edits.{length-insert}
-use Rattle.std.specs.List.{AllByRecursion}
-use Rattle.sl_commands.specs.declared.Mode.{Mode}
 use Rattle.sl_commands.specs.declared.Mode.TheVariants.{Multiplying}
 use Rattle.sl_commands.specs.declared.How.{How}
 use Rattle.sl_commands.specs.declared.How.TheVariants.{Forward, Backward, Insert, Append}
 use Rattle.sl_commands.specs.Settings.{max_length}
-use Rattle.looper_rules.specs.Limits.{max_layers, max_seams, chunk_frames}
-use Rattle.looper_rules.specs.Layers.{Cell, Layer, fresh_cell, old_cell, old_cells, total_seams, with_current, current_length, current_base_length, current_base_seams, current_end}
+use Rattle.looper_rules.specs.Limits.{max_seams, chunk_frames}
+use Rattle.looper_rules.specs.Layers.{Cell, Layer, fresh_cell, total_seams, with_current, current_length, current_base_length, current_base_seams, current_end}
 use Rattle.looper_rules.specs.Stack.{Stack, LastWrite}
 use Rattle.looper_rules.specs.Room.{chunks_of, has_room}
-use Rattle.looper_rules.specs.Writing.{overwrites, meets_fresh, new_cell_fits, write_fits, with_cell, with_written, rewritten, newly_written, written, extension_fits, with_base, extended}
+use Rattle.looper_rules.specs.Writing.{overwrites, meets_fresh, new_cell_fits, with_cell, with_written, extension_fits, with_base, extended}
 use Rattle.looper_rules.specs.Loop.{Deck, Loop, length_of, with_stack}
-use Rattle.looper_rules.specs.States.{IsRecorded, IsOpenOver, AreClosed, HasCurrent, InMode, IsRun, AreWithin, IsStack}
+use Rattle.looper_rules.specs.States.{IsRecorded, IsOpenOver, HasCurrent, InMode, IsRun, AreWithin}
 use Rattle.looper_rules.specs.Reached.{AreOrdered, GoOnFrom, Aside, Keeps}
 use Rattle.looper_rules.proofs.KeptLayers.{total_seams-cons, length-with_current}
 

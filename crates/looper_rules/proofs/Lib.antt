@@ -11,3 +11,6 @@ pub mod KeptLoopFrame
 pub mod KeptTracks
 pub mod KeptSaves
 pub mod KeptSettings
+pub mod KeptEntries
+pub mod KeptRuns
+pub mod KeptStarts
