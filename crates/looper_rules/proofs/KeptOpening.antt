@@ -1,6 +1,5 @@
 -- A loop that opens a layer keeps what it has to keep.
 use Rattle.std.proofs.Common.{◌≡◌, ℕ, ◌+◌, ◌-◌, ◌≤◌, ◌<◌, Bool, true, false, List, [], ◌∷◌, length, refl, arith, ltb-false, leb-false}
-use Rattle.std.specs.Prelude.{⊤}
 use Rattle.std.proofs.lemmas.List.{length-map}
 use Rattle.sl_commands.specs.declared.Mode.{Mode}
 use Rattle.sl_commands.specs.declared.Mode.TheVariants.{Overdubbing, Multiplying, Inserting, Replacing, Substituting}
@@ -15,7 +14,7 @@ use Rattle.looper_rules.specs.Opening.{opening_tape, opening_seams, first_refusa
 use Rattle.looper_rules.specs.Loop.{Loop}
 use Rattle.looper_rules.specs.Starting.{records, layers_on, starts}
 use Rattle.looper_rules.specs.States.{IsOpenOver, AreClosed, ArePlayable, AreWritten, InMode, AreWithin, IsStack}
-use Rattle.looper_rules.specs.Reached.{AreOrdered, Aside, Keeps}
+use Rattle.looper_rules.specs.Reached.{AreOrdered, Aside, Keeps, IsLayering}
 use Rattle.looper_rules.proofs.KeptDecks.{refused_keeps, no_run}
 use Rattle.looper_rules.proofs.KeptLayers.{length-unmarked, total_seams-cons, chunks_of_le, current_end_within, ordered_within}
 
@@ -101,15 +100,6 @@ opens_record {l = l} reach h closed ok =
       controls = h.controls;
       press = h.press;
     }
-
--- a mode in which a layer is opened over a list, in this direction
-abbrev pub IsLayering : Mode → Bool → Type 0
-IsLayering Overdubbing backward = ⊤
-IsLayering Replacing backward = ⊤
-IsLayering Substituting backward = ⊤
-IsLayering Inserting backward = backward ≡ false
-IsLayering Multiplying backward = backward ≡ false
-IsLayering _ backward = ⊥
 
 -- layers that are written are those of such a mode
 pub written_in : {A : Type 0} (mode : Mode) (layers redo : List (Layer A)) (pos : ℕ) (backward : Bool) → IsLayering mode backward → AreWritten layers redo pos → InMode mode layers redo pos backward

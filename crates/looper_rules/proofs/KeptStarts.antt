@@ -1,5 +1,5 @@
 -- The looper that a run begins with has what it has to keep, and what is kept is what always holds.
-use Rattle.std.proofs.Common.{◌≡◌, ℕ, zero, suc, ◌+◌, ◌≤◌, Bool, true, List, [], ◌∷◌, length, map, refl, sym, ap, subst, arith, nat_le, leb-true}
+use Rattle.std.proofs.Common.{◌≡◌, ℕ, zero, suc, ◌+◌, ◌≤◌, Bool, true, List, [], ◌∷◌, length, map, replicate, refl, sym, ap, subst, arith, nat_le, leb-true}
 use Rattle.std.specs.Prelude.{◌&&◌, IsTrue, pos}
 use Rattle.std.proofs.lemmas.Bool.{and_parts, and_from, le-leb}
 use Rattle.std.proofs.lemmas.List.{length-map}
@@ -12,7 +12,8 @@ use Rattle.sl_commands.specs.declared.Control.TheVariants.{Feedback, Wet, Round,
 use Rattle.sl_commands.specs.declared.Entry.{Entry}
 use Rattle.sl_commands.specs.declared.StripSettings.{StripSettings}
 use Rattle.sl_commands.specs.Controls.{is_in_range}
-use Rattle.sl_commands.specs.Settings.{LooperSettings, max_length, are_globals, is_cycle_of, is_strip, are_strips, is_rate, is_loop_count}
+use Rattle.sl_commands.specs.Settings.{LooperSettings, default_strip, default_settings, max_length, are_globals, is_cycle_of, is_strip, are_strips, is_rate, is_loop_count}
+use Rattle.sl_commands.proofs.SettingsLemmas.{are_settings-default}
 use Rattle.looper_rules.specs.Layers.{Layer, old_cell, old_cells, current_length, current_cycle}
 use Rattle.looper_rules.specs.Room.{chunks_of, used}
 use Rattle.looper_rules.specs.Loop.{Loop, length_of}
@@ -20,7 +21,7 @@ use Rattle.looper_rules.specs.Looper.{Track, Looper, tape_of}
 use Rattle.looper_rules.specs.Saves.{told_cycle, strip_of}
 use Rattle.looper_rules.specs.Run.{controls_of, loaded_layer, first_track, first_tracks, start, begun, entered}
 use Rattle.looper_rules.specs.States.{IsClosed, IsOpenOver, AreClosed, HasCurrent, AreWaiting, InMode, AreWithin, IsLoop, IsTrack, IsLooper}
-use Rattle.looper_rules.specs.Reached.{Aside, Keeps, AreControls, KeepsTrack, KeepsLooper, strip_length, IsBeginning}
+use Rattle.looper_rules.specs.Reached.{Aside, Keeps, AreControls, KeepsTrack, KeepsLooper, AreLists, IsBeginning}
 use Rattle.looper_rules.proofs.KeptLayers.{contents-old_cells}
 use Rattle.looper_rules.proofs.KeptTracks.{used-cons, wet_within}
 use Rattle.looper_rules.proofs.KeptSettings.{dry_range}
@@ -119,21 +120,29 @@ record AreFirst (chunks : ℕ) (strips : List StripSettings) (lists : List (List
   uses : used (map tape_of (first_tracks strips lists)) ≡ used (map length lists)
   count : length (first_tracks strips lists) ≡ length strips
 
-first_all : (chunks : ℕ) (strips : List StripSettings) (lists : List (List Sound)) → are_strips strips ≡ true → map length lists ≡ map strip_length strips → used (map length lists) ≤ chunks → AreFirst chunks strips lists
-first_all chunks [] [] valid same within = record { tracks = tt; uses = refl; count = refl }
-first_all chunks [] (list ∷ lists) valid same within = absurd (let none : ⊥ = Prim.cc in none)
-first_all chunks (s ∷ ss) [] valid same within = absurd (let none : ⊥ = Prim.cc in none)
-first_all chunks (s ∷ ss) (list ∷ lists) valid same within =
+first_all : (chunks : ℕ) (strips : List StripSettings) (lists : List (List Sound)) → are_strips strips ≡ true → AreLists strips lists → used (map length lists) ≤ chunks → AreFirst chunks strips lists
+first_all chunks [] [] valid agree within = record { tracks = tt; uses = refl; count = refl }
+first_all chunks [] (list ∷ lists) valid agree within = absurd agree
+first_all chunks (s ∷ ss) [] valid agree within =
     let parts = and_parts (is_strip s) (are_strips ss) valid
-    in let length_same : length list ≡ s.length = Prim.cc
-    in let lengths_same : map length lists ≡ map strip_length ss = Prim.cc
+    in let rest = first_all chunks ss [] parts.1 agree.1 within
+    in let those : used (map tape_of (first_tracks ss [])) ≡ 0 = rest.uses
+    in let uses = used-cons (first_track [] s) (first_tracks ss [])
+    in let none : chunks_of (tape_of (first_track [] s)) ≡ 0 = refl
+    in record {
+      tracks = (first_keeps chunks [] s parts.0 (sym agree.0) (omega arith), rest.tracks);
+      uses = (let sum : used (map tape_of (first_tracks (s ∷ ss) [])) ≡ 0 = omega arith in sum);
+      count = ap suc rest.count;
+    }
+first_all chunks (s ∷ ss) (list ∷ lists) valid agree within =
+    let parts = and_parts (is_strip s) (are_strips ss) valid
     in let sum : used (map length (list ∷ lists)) ≡ chunks_of (length list) + used (map length lists) = sum_by-cons chunks_of (length list) (map length lists)
-    in let rest = first_all chunks ss lists parts.1 lengths_same (omega arith)
+    in let rest = first_all chunks ss lists parts.1 agree.1 (omega arith)
     in let those : used (map tape_of (first_tracks ss lists)) ≡ used (map length lists) = rest.uses
     in let one : chunks_of (tape_of (first_track list s)) ≡ chunks_of (length list) = ap chunks_of (first_tape list s)
     in let uses = used-cons (first_track list s) (first_tracks ss lists)
     in record {
-      tracks = (first_keeps chunks list s parts.0 length_same (omega arith), rest.tracks);
+      tracks = (first_keeps chunks list s parts.0 (sym agree.0) (omega arith), rest.tracks);
       uses = omega arith;
       count = ap suc rest.count;
     }
@@ -233,3 +242,11 @@ runs_begun settings chunks lists h es xs = looper_holds (begun_from_start settin
 -- and after some entries behind them
 pub runs_entered : (settings : LooperSettings) (chunks : ℕ) (lists : List (List Sound)) → IsBeginning settings chunks lists → (es more : List Entry) (xs : List Sound) → IsLooper (length xs) (entered (length xs) more (begun 0 es xs (start settings chunks lists)).looper).looper
 runs_entered settings chunks lists h es more xs = looper_holds (entered_keeps (length xs) more (begun 0 es xs (start settings chunks lists)).looper (begun_from_start settings chunks lists h es xs))
+
+-- new loops may begin a run
+new_lists : (loops : ℕ) → AreLists (replicate loops default_strip) []
+new_lists zero = tt
+new_lists (suc n) = (refl, new_lists n)
+
+pub new_begins : (rate loops chunks : ℕ) → is_rate rate ≡ true → is_loop_count loops ≡ true → IsBeginning (default_settings rate loops) chunks []
+new_begins rate loops chunks rated counted = record { in_range = are_settings-default rate loops rated counted; lengths = new_lists loops; fits = omega arith }

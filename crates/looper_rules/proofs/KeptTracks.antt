@@ -15,7 +15,7 @@ use Rattle.looper_rules.specs.Gains.{gain_after}
 use Rattle.looper_rules.specs.Looper.{Track, tape_of, reach_of, swept, at_index, on_loop}
 use Rattle.looper_rules.specs.Frame.{at_boundary, played_on, played}
 use Rattle.looper_rules.specs.States.{IsPressBefore}
-use Rattle.looper_rules.specs.Reached.{Aside, Keeps, AreControls, aside_of, KeepsTrack}
+use Rattle.looper_rules.specs.Reached.{Aside, Keeps, KeepsLoops, AreControls, aside_of, KeepsTrack}
 use Rattle.looper_rules.proofs.KeptPresses.{waiting_acts_keeps}
 use Rattle.looper_rules.proofs.KeptLoopFrame.{framed_keeps}
 
@@ -48,10 +48,6 @@ track_keeps {reach = reach} {frame = frame} gain h within k =
       gain = within;
       press = subst (λ p. IsPressBefore frame p) (sym k.press) h.press;
     }
-
--- what is done to each loop keeps it
-abbrev pub KeepsLoops : (ℕ → Loop Sound → Loop Sound) → Type 0
-KeepsLoops act = (a : Aside) (l : Loop Sound) → Keeps a l → Keeps a (act a.reach l)
 
 -- what is done to each track keeps it
 abbrev pub KeepsTracks : ℕ → (ℕ → Track → Track) → Type 0

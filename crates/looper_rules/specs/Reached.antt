@@ -3,11 +3,14 @@
 --   back, go on so from the current one; so an opening can take the tape back to the current layer's end;
 -- - the tape takes at most the chunks that the loop reaches;
 -- - verbs and frames leave the controls, the press and whether a pin stands as they were.
--- A run begins from settings in their ranges, with one list for each strip, of its length, whose chunks are all there.
-use Rattle.std.specs.Prelude.{◌≡◌, ℕ, ◌≤◌, pos, ⊤, Bool, IsTrue, List, [], ◌∷◌, length, map, Option, is_some}
+-- A run begins from settings in their ranges, with lists as long as their strips say, for which there are chunks.
+-- "States: what always holds" in docs/rules.md.
+use Rattle.std.specs.Prelude.{◌≡◌, ℕ, ◌≤◌, pos, ⊤, Bool, false, IsTrue, List, [], ◌∷◌, length, map, Option, is_some}
 use Rattle.std.specs.List.{AllByRecursion}
 use Rattle.sl_base.specs.Sounds.{Sound}
 use Rattle.sl_commands.specs.declared.Control.TheVariants.{Feedback, Wet, Round, Quantize, RecThresh}
+use Rattle.sl_commands.specs.declared.Mode.{Mode}
+use Rattle.sl_commands.specs.declared.Mode.TheVariants.{Overdubbing, Replacing, Substituting, Inserting, Multiplying}
 use Rattle.sl_commands.specs.declared.Held.{Held}
 use Rattle.sl_commands.specs.declared.StripSettings.{StripSettings}
 use Rattle.sl_commands.specs.Controls.{is_in_range}
@@ -49,6 +52,19 @@ pub record Keeps {A : Type 0} (a : Aside) (l : Loop A) : Type 0 where
   pub controls : l.controls ≡ a.controls
   pub press : l.deck.press ≡ a.press
 
+-- a mode in which a layer is opened over a list, in this direction
+abbrev pub IsLayering : Mode → Bool → Type 0
+IsLayering Overdubbing backward = ⊤
+IsLayering Replacing backward = ⊤
+IsLayering Substituting backward = ⊤
+IsLayering Inserting backward = backward ≡ false
+IsLayering Multiplying backward = backward ≡ false
+IsLayering _ backward = ⊥
+
+-- what is done to a loop that reaches so many chunks keeps it
+abbrev pub KeepsLoops : (ℕ → Loop Sound → Loop Sound) → Type 0
+KeepsLoops act = (a : Aside) (l : Loop Sound) → Keeps a l → Keeps a (act a.reach l)
+
 -- a loop's controls lie in their ranges
 pub record AreControls (c : Controls) : Type 0 where
   pub feedback : IsTrue (is_in_range Feedback (pos c.feedback) 0)
@@ -76,12 +92,15 @@ pub record KeepsLooper (frame : ℕ) (l : Looper) : Type 0 where
   pub dry : l.dry ≤ 1000
   pub used_chunks : used (map tape_of l.tracks) ≤ l.chunks
 
--- the length that a strip tells
-abbrev pub strip_length : StripSettings → ℕ
-strip_length s = s.length
+-- each list is as long as its strip says, and lists that aren't given are empty
+abbrev pub AreLists : List StripSettings → List (List Sound) → Type 0
+AreLists [] [] = ⊤
+AreLists [] (list ∷ lists) = ⊥
+AreLists (s ∷ ss) [] = (s.length ≡ 0) × AreLists ss []
+AreLists (s ∷ ss) (list ∷ lists) = (s.length ≡ length list) × AreLists ss lists
 
 -- settings, chunks and lists with which a run may begin
 pub record IsBeginning (settings : LooperSettings) (chunks : ℕ) (lists : List (List Sound)) : Type 0 where
   pub in_range : IsTrue (are_settings settings)
-  pub lengths : map length lists ≡ map strip_length settings.strips
+  pub lengths : AreLists settings.strips lists
   pub fits : used (map length lists) ≤ chunks
