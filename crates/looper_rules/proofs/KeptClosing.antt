@@ -39,7 +39,9 @@ recorded_closes tape l h some =
     }
 
 -- a layer over a list is closed by closing it with these cells
-cells_close : {A : Type 0} (cells : List (Cell A)) (tape : ℕ) (l : Layer A) → IsOpenOver l → length l.base ≤ length cells → IsClosed (closed_layer cells tape l)
+cells_close :
+    {A : Type 0} (cells : List (Cell A)) (tape : ℕ) (l : Layer A) → IsOpenOver l → length l.base ≤ length cells →
+    IsClosed (closed_layer cells tape l)
 cells_close cells tape l h fits =
     let same : length (unmarked cells) ≡ length cells = length-unmarked cells
     in let cycle : closing_cycle l.cycle (length cells) ≡ l.cycle = closing_cycle-some l.cycle (length cells) h.cycle_from
@@ -58,31 +60,42 @@ open_closes : {A : Type 0} (tape : ℕ) (l : Layer A) → IsOpenOver l → IsClo
 open_closes tape l h = cells_close l.cells tape l h h.base_within
 
 -- so it is where a multiply cuts it
-cut_closes : {A : Type 0} (pos tape : ℕ) (l : Layer A) → IsOpenOver l → pos ≤ length l.cells → IsClosed (finished_layer (multiply_cut pos (length l.base)) tape l)
+cut_closes :
+    {A : Type 0} (pos tape : ℕ) (l : Layer A) → IsOpenOver l → pos ≤ length l.cells →
+    IsClosed (finished_layer (multiply_cut pos (length l.base)) tape l)
 cut_closes pos tape l h inside =
     cond_both (nat_lt (length l.base) pos) (Some pos) None (λ cut. IsClosed (finished_layer cut tape l))
     (λ beyond. (let cut : length (take pos l.cells) ≡ pos = length-take-le pos l.cells inside in let above : length l.base < pos = ltb-true (length l.base) pos beyond in cells_close (take pos l.cells) tape l h (omega arith)))
     (λ within. open_closes tape l h)
 
 -- a layer that closes has no more cells than before
-closed_short : {A : Type 0} (cut : Option ℕ) (tape : ℕ) (l : Layer A) → length l.cells ≤ max_length → length (finished_layer cut tape l).cells ≤ max_length
+closed_short :
+    {A : Type 0} (cut : Option ℕ) (tape : ℕ) (l : Layer A) → length l.cells ≤ max_length →
+    length (finished_layer cut tape l).cells ≤ max_length
 closed_short None tape l short = rw length-unmarked short
 closed_short (Some count) tape l short = rw (length-unmarked, length-take) (omega arith)
 
 -- layers whose current one closes are within their limits
-finished_within : {A : Type 0} (cut : Option ℕ) (tape : ℕ) (layers : List (Layer A)) → AreWithin tape layers → AreWithin tape (with_current (finished_layer cut tape) layers)
+finished_within :
+    {A : Type 0} (cut : Option ℕ) (tape : ℕ) (layers : List (Layer A)) → AreWithin tape layers →
+    AreWithin tape (with_current (finished_layer cut tape) layers)
 finished_within cut tape [] within = tt
 finished_within cut tape (l ∷ ls) within = ((closed_short cut tape l within.0.0, (let same : tape ≤ tape = omega arith in same)), within.1)
 
 -- they have as many seams
-finished_seams : {A : Type 0} (cut : Option ℕ) (tape : ℕ) (layers : List (Layer A)) → total_seams (with_current (finished_layer cut tape) layers) ≡ total_seams layers
+finished_seams :
+    {A : Type 0} (cut : Option ℕ) (tape : ℕ) (layers : List (Layer A)) →
+    total_seams (with_current (finished_layer cut tape) layers) ≡ total_seams layers
 finished_seams cut tape [] = refl
 finished_seams cut tape (l ∷ ls) = total_seams-cons (finished_layer cut tape l) ls ∙ sym (total_seams-cons l ls)
 
 -- and are in order
-finished_order : {A : Type 0} (cut : Option ℕ) (tape : ℕ) (layers : List (Layer A)) → AreWithin tape layers → AreOrdered layers → AreOrdered (with_current (finished_layer cut tape) layers)
+finished_order :
+    {A : Type 0} (cut : Option ℕ) (tape : ℕ) (layers : List (Layer A)) → AreWithin tape layers → AreOrdered layers →
+    AreOrdered (with_current (finished_layer cut tape) layers)
 finished_order cut tape [] within order = tt
-finished_order cut tape (l ∷ ls) within order = ((let under : current_end ls ≤ l.end = order.0 in let last : l.end ≤ tape = within.0.1 in omega arith), order.1)
+finished_order cut tape (l ∷ ls) within order =
+    ((let under : current_end ls ≤ l.end = order.0 in let last : l.end ≤ tape = within.0.1 in omega arith), order.1)
 
 -- layers without the current one are within their limits
 dropped_within : {A : Type 0} (tape : ℕ) (layers : List (Layer A)) → AreWithin tape layers → AreWithin tape (without_current layers)
@@ -159,18 +172,24 @@ none_left (l ∷ []) single = refl
 none_left (l ∷ k ∷ ls) single = absurd (let few : suc (suc (length ls)) ≤ 1 = leb-true (suc (suc (length ls))) 1 single in omega arith)
 
 -- and where there are others
-some_left : {A : Type 0} (Kind : Layer A → Type 0) (layers : List (Layer A)) → nat_le (length layers) 1 ≡ false → HasCurrent Kind layers → ArePlayable (without_current layers) 0
+some_left :
+    {A : Type 0} (Kind : Layer A → Type 0) (layers : List (Layer A)) → nat_le (length layers) 1 ≡ false → HasCurrent Kind layers →
+    ArePlayable (without_current layers) 0
 some_left Kind [] several has = absurd has
 some_left Kind (l ∷ []) several has = absurd (let many : 1 < 1 = leb-false 1 1 several in omega arith)
 some_left Kind (l ∷ k ∷ ls) several has = (has.1, has.1.0.not_empty)
 
 -- a layer that was recorded, closed
-recorded_playable : {A : Type 0} (tape : ℕ) (layers : List (Layer A)) → HasCurrent IsRecorded layers → 1 ≤ current_length layers → ArePlayable (with_current (finished_layer None tape) layers) 0
+recorded_playable :
+    {A : Type 0} (tape : ℕ) (layers : List (Layer A)) → HasCurrent IsRecorded layers → 1 ≤ current_length layers →
+    ArePlayable (with_current (finished_layer None tape) layers) 0
 recorded_playable tape [] has some = absurd has
 recorded_playable tape (l ∷ ls) has some = ((recorded_closes tape l has.0 some, has.1), rw length-unmarked some)
 
 -- a layer over a list, closed
-open_playable : {A : Type 0} (tape pos : ℕ) (layers : List (Layer A)) → HasCurrent IsOpenOver layers → pos < current_length layers → ArePlayable (with_current (finished_layer None tape) layers) pos
+open_playable :
+    {A : Type 0} (tape pos : ℕ) (layers : List (Layer A)) → HasCurrent IsOpenOver layers → pos < current_length layers →
+    ArePlayable (with_current (finished_layer None tape) layers) pos
 open_playable tape pos [] has inside = absurd has
 open_playable tape pos (l ∷ ls) has inside = ((open_closes tape l has.0, has.1), rw length-unmarked inside)
 
@@ -184,19 +203,29 @@ multiplied_playable tape pos (l ∷ ls) has inside =
     in ((closed, has.1), mod-lt pos closed.not_empty)
 
 -- a Recording closed
-recording_closes : {A : Type 0} {a : Aside} {l : Loop A} (empty single : Bool) → (length_of l == 0) ≡ empty → nat_le (length l.stack.layers) 1 ≡ single → Keeps a l → InMode Recording l.stack.layers l.stack.redo l.deck.pos l.deck.backward → Keeps a (closed_recording empty single l)
+recording_closes :
+    {A : Type 0} {a : Aside} {l : Loop A} (empty single : Bool) → (length_of l == 0) ≡ empty →
+    nat_le (length l.stack.layers) 1 ≡ single → Keeps a l →
+    InMode Recording l.stack.layers l.stack.redo l.deck.pos l.deck.backward → Keeps a (closed_recording empty single l)
 recording_closes {l = l} true true nothing only h now = drops Off h now.1 (none_left l.stack.layers only, subst (λ redo. AreClosed redo) (sym now.1) tt)
 recording_closes {l = l} true false nothing several h now = drops Playing h now.1 (some_left IsRecorded l.stack.layers several now.0, subst (λ redo. AreClosed redo) (sym now.1) tt)
 recording_closes {l = l} false single some several h now = finishes None 0 h now.1 (recorded_playable l.stack.tape l.stack.layers now.0 (let not_none : length_of l ≡ 0 → ⊥ = eqb-false (length_of l) 0 some in omega arith))
 
 -- a loop in this writing mode closed
-closed_from_keeps : {A : Type 0} {a : Aside} {l : Loop A} (mode : Mode) → is_writing mode ≡ true → Keeps a l → InMode mode l.stack.layers l.stack.redo l.deck.pos l.deck.backward → Keeps a (closed_from mode l)
+closed_from_keeps :
+    {A : Type 0} {a : Aside} {l : Loop A} (mode : Mode) → is_writing mode ≡ true → Keeps a l →
+    InMode mode l.stack.layers l.stack.redo l.deck.pos l.deck.backward → Keeps a (closed_from mode l)
 closed_from_keeps {l = l} Recording writing h now = recording_closes (length_of l == 0) (nat_le (length l.stack.layers) 1) refl refl h now
-closed_from_keeps {l = l} Multiplying writing h now = finishes (multiply_cut l.deck.pos (base_length_of l)) (l.deck.pos % current_length (finished (multiply_cut l.deck.pos (base_length_of l)) l.stack).layers) h now.1 (multiplied_playable l.stack.tape l.deck.pos l.stack.layers now.0 now.2)
-closed_from_keeps {l = l} Overdubbing writing h now = finishes None l.deck.pos h now.1 (open_playable l.stack.tape l.deck.pos l.stack.layers now.0 now.2)
-closed_from_keeps {l = l} Replacing writing h now = finishes None l.deck.pos h now.1 (open_playable l.stack.tape l.deck.pos l.stack.layers now.0 now.2)
-closed_from_keeps {l = l} Substituting writing h now = finishes None l.deck.pos h now.1 (open_playable l.stack.tape l.deck.pos l.stack.layers now.0 now.2)
-closed_from_keeps {l = l} Inserting writing h now = finishes None l.deck.pos h now.0.1 (open_playable l.stack.tape l.deck.pos l.stack.layers now.0.0 now.0.2)
+closed_from_keeps {l = l} Multiplying writing h now =
+    finishes (multiply_cut l.deck.pos (base_length_of l)) (l.deck.pos % current_length (finished (multiply_cut l.deck.pos (base_length_of l)) l.stack).layers) h now.1 (multiplied_playable l.stack.tape l.deck.pos l.stack.layers now.0 now.2)
+closed_from_keeps {l = l} Overdubbing writing h now =
+    finishes None l.deck.pos h now.1 (open_playable l.stack.tape l.deck.pos l.stack.layers now.0 now.2)
+closed_from_keeps {l = l} Replacing writing h now =
+    finishes None l.deck.pos h now.1 (open_playable l.stack.tape l.deck.pos l.stack.layers now.0 now.2)
+closed_from_keeps {l = l} Substituting writing h now =
+    finishes None l.deck.pos h now.1 (open_playable l.stack.tape l.deck.pos l.stack.layers now.0 now.2)
+closed_from_keeps {l = l} Inserting writing h now =
+    finishes None l.deck.pos h now.0.1 (open_playable l.stack.tape l.deck.pos l.stack.layers now.0.0 now.0.2)
 closed_from_keeps _ writing h now = absurd (let no : ⊥ = Prim.cc in no)
 
 pub closed_keeps : {A : Type 0} {a : Aside} {l : Loop A} → is_writing l.deck.mode ≡ true → Keeps a l → Keeps a (closed l)

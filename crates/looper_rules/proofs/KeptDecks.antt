@@ -10,7 +10,8 @@ use Rattle.looper_rules.specs.Reached.{Aside, Keeps}
 
 -- the limits of a stack say nothing of its run
 pub stack_in_run : {A : Type 0} {s : Stack A} (run : Option LastWrite) → IsStack s → IsStack (record s { run = run })
-stack_in_run run h = record { layers_within = h.layers_within; redo_within = h.redo_within; pin_within = h.pin_within; count = h.count; seams = h.seams }
+stack_in_run run h =
+    record { layers_within = h.layers_within; redo_within = h.redo_within; pin_within = h.pin_within; count = h.count; seams = h.seams }
 
 -- another deck and another run
 pub with_deck :

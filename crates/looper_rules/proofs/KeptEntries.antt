@@ -58,7 +58,9 @@ with_tracks {l = l} saves now h kept =
     }
 
 -- something done to the tracks of a target of a looper
-pub on_tracks : {frame : ℕ} {l : Looper} (target : Target) (act : ℕ → Track → Track) → KeepsTracks frame act → KeepsLooper frame l → KeepsLooper frame (record l { tracks = at_target target l.globals.selected_loop_num act (free_of l.chunks l.tracks) l.tracks })
+pub on_tracks :
+    {frame : ℕ} {l : Looper} (target : Target) (act : ℕ → Track → Track) → KeepsTracks frame act → KeepsLooper frame l →
+    KeepsLooper frame (record l { tracks = at_target target l.globals.selected_loop_num act (free_of l.chunks l.tracks) l.tracks })
 on_tracks {frame = frame} {l = l} target act keeps h =
     let all : free_of l.chunks l.tracks + used (map tape_of l.tracks) ≡ l.chunks = free_and_used l.chunks l.tracks h.used_chunks
     in let now : AreKept l.chunks frame (free_of l.chunks l.tracks + used (map tape_of l.tracks)) l.tracks (at_target target l.globals.selected_loop_num act (free_of l.chunks l.tracks) l.tracks) =
@@ -92,7 +94,9 @@ released_on frame long_press verb reach t h =
     }
 
 -- a control of a loop that is set
-sets_on : (frame loops : ℕ) (control : Control) (value : ℤ) → is_in_range control value loops ≡ true → KeepsTracks frame (on_loop (sets control value))
+sets_on :
+    (frame loops : ℕ) (control : Control) (value : ℤ) → is_in_range control value loops ≡ true →
+    KeepsTracks frame (on_loop (sets control value))
 sets_on frame loops control value e reach t h =
     record {
       loop = record {
@@ -113,7 +117,9 @@ sets_on frame loops control value e reach t h =
     }
 
 -- a save of a loop, by the answer at once
-saves_loop_keeps : {frame : ℕ} {l : Looper} (refusal : Option ℕ) (k : ℕ) (asker : Asker) → KeepsLooper frame l → KeepsLooper frame (saves_loop refusal k asker l)
+saves_loop_keeps :
+    {frame : ℕ} {l : Looper} (refusal : Option ℕ) (k : ℕ) (asker : Asker) → KeepsLooper frame l →
+    KeepsLooper frame (saves_loop refusal k asker l)
 saves_loop_keeps {frame = frame} {l = l} None k asker h =
     let now : AreKept l.chunks frame (0 + used (map tape_of l.tracks)) l.tracks (at_index k (λ reach t. pinned_for asker t) 0 l.tracks) =
     at_index_keeps k (λ reach t. pinned_for asker t) l.chunks frame 0 l.tracks (pinned_for_keeps frame asker) h.tracks (let most = h.used_chunks in omega arith)
@@ -121,7 +127,9 @@ saves_loop_keeps {frame = frame} {l = l} None k asker h =
 saves_loop_keeps (Some refusal) k asker h = h
 
 -- a save of the session, by the answer at once
-saves_session_keeps : {frame : ℕ} {l : Looper} (refusal : Option ℕ) (asker : Asker) → KeepsLooper frame l → KeepsLooper frame (saves_session refusal asker l)
+saves_session_keeps :
+    {frame : ℕ} {l : Looper} (refusal : Option ℕ) (asker : Asker) → KeepsLooper frame l →
+    KeepsLooper frame (saves_session refusal asker l)
 saves_session_keeps {frame = frame} {l = l} None asker h =
     let now : AreKept l.chunks frame (used (map tape_of l.tracks)) l.tracks (map (pinned_for asker) l.tracks) = mapped_keeps (pinned_for asker) l.chunks frame l.tracks (pinned_for_keeps frame asker) (λ t. refl) h.tracks
     in with_tracks (l.saves + 1) (map (pinned_for asker) l.tracks) h (record { tracks = now.tracks; used_chunks = (let less = now.used_chunks in let most = h.used_chunks in omega arith); same_count = now.same_count })
@@ -139,7 +147,9 @@ releases_keeps {frame = frame} {l = l} All h =
 releases_keeps Selected h = h
 
 -- the looper's own controls, with one set
-sets_global : {frame : ℕ} {l : Looper} (control : Control) (value : ℤ) → is_in_range control value (length l.tracks) ≡ true → KeepsLooper frame l → KeepsLooper frame (record l { globals = with_global control value l.globals })
+sets_global :
+    {frame : ℕ} {l : Looper} (control : Control) (value : ℤ) → is_in_range control value (length l.tracks) ≡ true →
+    KeepsLooper frame l → KeepsLooper frame (record l { globals = with_global control value l.globals })
 sets_global {l = l} control value e h =
     record {
       tracks = h.tracks;
@@ -150,16 +160,21 @@ sets_global {l = l} control value e h =
     }
 
 -- a command that may be given
-performed_keeps : {frame : ℕ} {l : Looper} (command : Command) (e : Entry) → is_allowed (length l.tracks) command ≡ true → KeepsLooper frame l → KeepsLooper frame (performed command frame e l)
+performed_keeps :
+    {frame : ℕ} {l : Looper} (command : Command) (e : Entry) → is_allowed (length l.tracks) command ≡ true → KeepsLooper frame l →
+    KeepsLooper frame (performed command frame e l)
 performed_keeps {frame = frame} (Down target verb) e allowed h = on_tracks target (on_loop (pressed verb frame)) (pressed_on frame verb) h
-performed_keeps {frame = frame} {l = l} (Up target verb) e allowed h = on_tracks target (on_loop (released verb frame l.globals.long_press)) (released_on frame l.globals.long_press verb) h
+performed_keeps {frame = frame} {l = l} (Up target verb) e allowed h =
+    on_tracks target (on_loop (released verb frame l.globals.long_press)) (released_on frame l.globals.long_press verb) h
 performed_keeps {frame = frame} (Hit target verb) e allowed h = on_tracks target (on_loop (given verb)) (given_on frame verb) h
 performed_keeps {frame = frame} {l = l} (Set target control value) e allowed h =
     on_tracks target (on_loop (sets control value)) (sets_on frame (length l.tracks) control value (and_parts (is_target (length l.tracks) target && is_of_loop control) (is_in_range control value (length l.tracks)) allowed).1) h
-performed_keeps {l = l} (SetGlobal control value) e allowed h = sets_global control value (and_parts (not (is_of_loop control)) (is_in_range control value (length l.tracks)) allowed).1 h
+performed_keeps {l = l} (SetGlobal control value) e allowed h =
+    sets_global control value (and_parts (not (is_of_loop control)) (is_in_range control value (length l.tracks)) allowed).1 h
 performed_keeps (Get target control) e allowed h = h
 performed_keeps (GetGlobal control) e allowed h = h
-performed_keeps {l = l} (SaveLoop target name) e allowed h = saves_loop_keeps (refusal_at target l) (index_of target l.globals.selected_loop_num) (asker_of e false) h
+performed_keeps {l = l} (SaveLoop target name) e allowed h =
+    saves_loop_keeps (refusal_at target l) (index_of target l.globals.selected_loop_num) (asker_of e false) h
 performed_keeps {l = l} (SaveSession name) e allowed h = saves_session_keeps (session_refusal l.tracks) (asker_of e true) h
 performed_keeps (Release target outcome) e allowed h = releases_keeps target h
 performed_keeps Quit e allowed h = h

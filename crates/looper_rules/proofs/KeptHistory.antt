@@ -47,7 +47,8 @@ goes_back l mode now pos x xs redo h in_mode run =
 
 -- a layer that comes back from redo
 comes_back :
-    {A : Type 0} {a : Aside} (l : Loop A) (mode now : Mode) (pos : ℕ) (layers : List (Layer A)) (x : Layer A) (xs : List (Layer A)) → Keeps a (so mode layers (x ∷ xs) l) →
+    {A :
+    Type 0} {a : Aside} (l : Loop A) (mode now : Mode) (pos : ℕ) (layers : List (Layer A)) (x : Layer A) (xs : List (Layer A)) → Keeps a (so mode layers (x ∷ xs) l) →
     InMode now (x ∷ layers) xs pos l.deck.backward → IsRun now l.stack.run pos l.deck.backward → Keeps a (moved now pos (x ∷ layers) xs l)
 comes_back l mode now pos layers x xs h in_mode run =
     record {
@@ -70,12 +71,16 @@ comes_back l mode now pos layers x xs h in_mode run =
     }
 
 -- a mode that isn't Off where there is a layer
-on : {A : Type 0} (mode : Mode) (l : Layer A) (ls redo : List (Layer A)) (pos : ℕ) (backward : Bool) → InMode mode (l ∷ ls) redo pos backward → is_off mode ≡ false
+on :
+    {A : Type 0} (mode : Mode) (l : Layer A) (ls redo : List (Layer A)) (pos : ℕ) (backward : Bool) →
+    InMode mode (l ∷ ls) redo pos backward → is_off mode ≡ false
 on Off l ls redo pos backward h = absurd (let none : ⊥ = Prim.cc (h.0) in none)
 on _ l ls redo pos backward h = refl
 
 -- a step back, outside the writing modes
-steps_back : {A : Type 0} {a : Aside} (l : Loop A) (mode : Mode) (layers redo : List (Layer A)) → is_writing mode ≡ false → Keeps a (so mode layers redo l) → Keeps a (stepped_back (so mode layers redo l))
+steps_back :
+    {A : Type 0} {a : Aside} (l : Loop A) (mode : Mode) (layers redo : List (Layer A)) → is_writing mode ≡ false →
+    Keeps a (so mode layers redo l) → Keeps a (stepped_back (so mode layers redo l))
 steps_back l mode [] redo quiet h =
     with_deck (record l.deck { mode = Off; pos = 0 }) l.stack.run h
     (refl, closed_redo mode [] redo l.deck.pos l.deck.backward quiet h.in_mode)
@@ -100,7 +105,9 @@ closed_is_quiet Playing leads = refl
 closed_is_quiet _ leads = absurd leads
 
 -- a loop with no layer open
-settled_keeps : {A : Type 0} {a : Aside} {l : Loop A} (writing : Bool) → is_writing l.deck.mode ≡ writing → Keeps a l → Keeps a (closed_if writing l) × (is_writing (closed_if writing l).deck.mode ≡ false)
+settled_keeps :
+    {A : Type 0} {a : Aside} {l : Loop A} (writing : Bool) → is_writing l.deck.mode ≡ writing → Keeps a l →
+    Keeps a (closed_if writing l) × (is_writing (closed_if writing l).deck.mode ≡ false)
 settled_keeps {l = l} true e h = (closed_keeps e h, closed_is_quiet _ (closed_leads l))
 settled_keeps {l = l} false e h = (h, e)
 
@@ -111,7 +118,9 @@ undo_keeps {l = l} h =
     in steps_back (settled l) (settled l).deck.mode (settled l).stack.layers (settled l).stack.redo now.1 now.0
 
 -- no layer waits for redo in a writing mode
-no_redo : {A : Type 0} (mode : Mode) (layers : List (Layer A)) (x : Layer A) (xs : List (Layer A)) (pos : ℕ) (backward : Bool) → InMode mode layers (x ∷ xs) pos backward → is_writing mode ≡ false
+no_redo :
+    {A : Type 0} (mode : Mode) (layers : List (Layer A)) (x : Layer A) (xs : List (Layer A)) (pos : ℕ) (backward : Bool) →
+    InMode mode layers (x ∷ xs) pos backward → is_writing mode ≡ false
 no_redo Recording layers x xs pos backward h = absurd (let none : ⊥ = Prim.cc (h.1) in none)
 no_redo Overdubbing layers x xs pos backward h = absurd (let none : ⊥ = Prim.cc (h.1) in none)
 no_redo Multiplying layers x xs pos backward h = absurd (let none : ⊥ = Prim.cc (h.1) in none)
@@ -121,14 +130,19 @@ no_redo Substituting layers x xs pos backward h = absurd (let none : ⊥ = Prim.
 no_redo _ layers x xs pos backward h = refl
 
 -- a layer that comes back in Off
-back_from_off : {A : Type 0} {a : Aside} (l : Loop A) (layers : List (Layer A)) (x : Layer A) (xs : List (Layer A)) → Keeps a (so Off layers (x ∷ xs) l) → Keeps a (moved Playing 0 (x ∷ layers) xs l)
+back_from_off :
+    {A : Type 0} {a : Aside} (l : Loop A) (layers : List (Layer A)) (x : Layer A) (xs : List (Layer A)) →
+    Keeps a (so Off layers (x ∷ xs) l) → Keeps a (moved Playing 0 (x ∷ layers) xs l)
 back_from_off l layers x xs h =
     comes_back l Off Playing 0 layers x xs h
     (((h.in_mode.1.0, closed_layers Off layers (x ∷ xs) l.deck.pos l.deck.backward refl h.in_mode), h.in_mode.1.0.not_empty), h.in_mode.1.1)
     h.run
 
 -- and in another mode
-back_elsewhere : {A : Type 0} {a : Aside} (l : Loop A) (mode : Mode) (layers : List (Layer A)) (x : Layer A) (xs : List (Layer A)) → is_off mode ≡ false → Keeps a (so mode layers (x ∷ xs) l) → Keeps a (moved mode (l.deck.pos % length x.cells) (x ∷ layers) xs l)
+back_elsewhere :
+    {A : Type 0} {a : Aside} (l : Loop A) (mode : Mode) (layers : List (Layer A)) (x : Layer A) (xs : List (Layer A)) →
+    is_off mode ≡ false → Keeps a (so mode layers (x ∷ xs) l) →
+    Keeps a (moved mode (l.deck.pos % length x.cells) (x ∷ layers) xs l)
 back_elsewhere l mode layers x xs is_on h =
     let quiet : is_writing mode ≡ false = no_redo mode layers x xs l.deck.pos l.deck.backward h.in_mode
     in let redo : AreClosed (x ∷ xs) = closed_redo mode layers (x ∷ xs) l.deck.pos l.deck.backward quiet h.in_mode
@@ -138,7 +152,9 @@ back_elsewhere l mode layers x xs is_on h =
     (run_in_quiet mode l.stack.run (l.deck.pos % length x.cells) l.deck.backward quiet none)
 
 -- redo, by the mode and the redo layers
-redoes : {A : Type 0} {a : Aside} (l : Loop A) (mode : Mode) (layers redo_layers : List (Layer A)) → Keeps a (so mode layers redo_layers l) → Keeps a (redo (so mode layers redo_layers l))
+redoes :
+    {A : Type 0} {a : Aside} (l : Loop A) (mode : Mode) (layers redo_layers : List (Layer A)) →
+    Keeps a (so mode layers redo_layers l) → Keeps a (redo (so mode layers redo_layers l))
 redoes l mode layers [] h = h
 redoes l Off layers (x ∷ xs) h = back_from_off l layers x xs h
 redoes l WaitStart layers (x ∷ xs) h = back_elsewhere l WaitStart layers x xs refl h

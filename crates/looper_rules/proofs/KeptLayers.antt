@@ -34,7 +34,9 @@ current_end_within tape [] within = omega arith
 current_end_within tape (l ∷ ls) within = within.0.1
 
 -- layers that are in order lie within any tape that the current one lies in
-pub ordered_within : {A : Type 0} (less tape : ℕ) (layers : List (Layer A)) → AreOrdered layers → current_end layers ≤ less → AreWithin tape layers → AreWithin less layers
+pub ordered_within :
+    {A : Type 0} (less tape : ℕ) (layers : List (Layer A)) → AreOrdered layers → current_end layers ≤ less →
+    AreWithin tape layers → AreWithin less layers
 ordered_within less tape [] order below within = tt
 ordered_within less tape (l ∷ ls) order below within =
     let below_it : current_end ls ≤ less = (let under : current_end ls ≤ l.end = order.0 in omega arith)

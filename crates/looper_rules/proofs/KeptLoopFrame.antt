@@ -28,11 +28,15 @@ use Rattle.looper_rules.proofs.KeptVerbs.{set_to, leaves_wait_keeps}
 use Rattle.looper_rules.proofs.KeptWriting.{Writes, written_stack, written_layers, wrote, still_recorded, still_open, current_length-over, current_length-added, fresh_fits, new_fits, extended_keeps}
 
 -- a WaitStart that ends
-wakes_keeps : {A : Type 0} {a : Aside} (l : Loop A) (answer : Started) → (answer ≡ Ok → Keeps a (records Ok (set_to WaitStart l))) → Keeps a (set_to WaitStart l) → Keeps a (wakes_as answer (set_to WaitStart l))
+wakes_keeps :
+    {A : Type 0} {a : Aside} (l : Loop A) (answer : Started) → (answer ≡ Ok → Keeps a (records Ok (set_to WaitStart l))) →
+    Keeps a (set_to WaitStart l) → Keeps a (wakes_as answer (set_to WaitStart l))
 wakes_keeps l Ok opens h = opens refl
 wakes_keeps l _ opens h = leaves_wait_keeps (refused_once l) (refused_keeps h)
 
-awake_keeps_in : {A : Type 0} {a : Aside} (l : Loop A) (mode : Mode) (loud : Bool) (reach : ℕ) → Keeps a (set_to mode l) → Keeps a (awake_in mode loud reach (set_to mode l))
+awake_keeps_in :
+    {A : Type 0} {a : Aside} (l : Loop A) (mode : Mode) (loud : Bool) (reach : ℕ) → Keeps a (set_to mode l) →
+    Keeps a (awake_in mode loud reach (set_to mode l))
 awake_keeps_in l WaitStart true reach h =
     wakes_keeps l (opening reach true l.stack) (opens_record reach h (closed_layers WaitStart l.stack.layers l.stack.redo l.deck.pos l.deck.backward refl h.in_mode)) h
 awake_keeps_in l _ _ reach h = h
@@ -63,17 +67,24 @@ closed_is_placed Playing pos len leads = tt
 closed_is_placed _ pos len leads = absurd leads
 
 -- a Multiplying with pos at the length
-extends_keeps : {A : Type 0} {a : Aside} (l : Loop A) (fits : Bool) → extension_fits l.stack ≡ fits → Keeps a (set_to Multiplying l) → IsReady a (extends fits (set_to Multiplying l))
+extends_keeps :
+    {A : Type 0} {a : Aside} (l : Loop A) (fits : Bool) → extension_fits l.stack ≡ fits → Keeps a (set_to Multiplying l) →
+    IsReady a (extends fits (set_to Multiplying l))
 extends_keeps l true e h = extended_keeps h h.in_mode refl e
-extends_keeps l false e h = (stopped_keeps refl h, closed_is_placed (stopped (set_to Multiplying l)).deck.mode (stopped (set_to Multiplying l)).deck.pos (length_of (stopped (set_to Multiplying l))) (closed_leads (refused_once (set_to Multiplying l))))
+extends_keeps l false e h =
+    (stopped_keeps refl h, closed_is_placed (stopped (set_to Multiplying l)).deck.mode (stopped (set_to Multiplying l)).deck.pos (length_of (stopped (set_to Multiplying l))) (closed_leads (refused_once (set_to Multiplying l))))
 
-ready_keeps_in : {A : Type 0} {a : Aside} (l : Loop A) (mode : Mode) (full : Bool) → (l.deck.pos == length_of l) ≡ full → Keeps a (set_to mode l) → IsReady a (ready_in mode full (set_to mode l))
+ready_keeps_in :
+    {A : Type 0} {a : Aside} (l : Loop A) (mode : Mode) (full : Bool) → (l.deck.pos == length_of l) ≡ full →
+    Keeps a (set_to mode l) → IsReady a (ready_in mode full (set_to mode l))
 ready_keeps_in l Multiplying true e h = extends_keeps l (extension_fits l.stack) refl h
-ready_keeps_in l Multiplying false e h = (h, (let other : l.deck.pos ≡ length_of l → ⊥ = eqb-false l.deck.pos (length_of l) e in let inside : l.deck.pos ≤ length_of l = h.in_mode.2 in omega arith))
+ready_keeps_in l Multiplying false e h =
+    (h, (let other : l.deck.pos ≡ length_of l → ⊥ = eqb-false l.deck.pos (length_of l) e in let inside : l.deck.pos ≤ length_of l = h.in_mode.2 in omega arith))
 ready_keeps_in l _ _ e h = (h, tt)
 
 pub ready_keeps : {A : Type 0} {a : Aside} {l : Loop A} (x : Sound) (reach : ℕ) → Keeps a l → IsReady a (ready x reach l)
-ready_keeps {l = l} x reach h = ready_keeps_in (awake x reach l) (awake x reach l).deck.mode ((awake x reach l).deck.pos == length_of (awake x reach l)) refl (awake_keeps x reach h)
+ready_keeps {l = l} x reach h =
+    ready_keeps_in (awake x reach l) (awake x reach l).deck.mode ((awake x reach l).deck.pos == length_of (awake x reach l)) refl (awake_keeps x reach h)
 
 -- the place behind a wrap lies in the list
 wrapped_inside : (backward : Bool) (pos len : ℕ) → pos < len → wrapped_place backward len < len
@@ -109,14 +120,18 @@ broken_keeps : {A : Type 0} {a : Aside} {l : Loop A} → Keeps a l → Keeps a (
 broken_keeps {l = l} h = with_deck l.deck None h h.in_mode (no_run l.deck.mode l.deck.pos l.deck.backward) refl
 
 -- going on in these modes
-moves_on : {A : Type 0} {a : Aside} {l : Loop A} (round : Bool) → wraps l.deck.backward l.deck.pos (length_of l) ≡ round → IsMoving l.deck.mode → Keeps a l → Keeps a (goes_on round l)
+moves_on :
+    {A : Type 0} {a : Aside} {l : Loop A} (round : Bool) → wraps l.deck.backward l.deck.pos (length_of l) ≡ round →
+    IsMoving l.deck.mode → Keeps a l → Keeps a (goes_on round l)
 moves_on {l = l} true e moves h =
     broken_keeps (rests_again (wrapped_mode l.deck.mode) (wrapped_place l.deck.backward (length_of l)) l.deck.backward (moving_rests l.deck.mode moves) (wrapped_rests l.deck.mode moves) (wrapped_inside l.deck.backward l.deck.pos (length_of l) (resting_inside (moving_rests l.deck.mode moves) h)) h)
 moves_on {l = l} false e moves h =
     rests_again l.deck.mode (next_place l.deck.backward l.deck.pos) l.deck.backward (moving_rests l.deck.mode moves) (moving_rests l.deck.mode moves) (next_inside l.deck.backward l.deck.pos (length_of l) (resting_inside (moving_rests l.deck.mode moves) h) e) h
 
 -- a loop in a mode that doesn't write goes on
-advances : {A : Type 0} {a : Aside} (l : Loop A) (mode : Mode) → is_writing mode ≡ false → Keeps a (set_to mode l) → Keeps a (advanced (set_to mode l))
+advances :
+    {A : Type 0} {a : Aside} (l : Loop A) (mode : Mode) → is_writing mode ≡ false → Keeps a (set_to mode l) →
+    Keeps a (advanced (set_to mode l))
 advances l Off quiet h = h
 advances l WaitStart quiet h = h
 advances l Paused quiet h = h
@@ -129,7 +144,9 @@ pub advanced_keeps : {A : Type 0} {a : Aside} {l : Loop A} → is_writing l.deck
 advanced_keeps {l = l} quiet h = advances l l.deck.mode quiet h
 
 -- a frame that doesn't fit
-overrun_keeps : {A : Type 0} {a : Aside} (l : Loop A) (mode : Mode) → is_writing mode ≡ true → Keeps a (set_to mode l) → Keeps a (overrun_in mode (set_to mode l))
+overrun_keeps :
+    {A : Type 0} {a : Aside} (l : Loop A) (mode : Mode) → is_writing mode ≡ true → Keeps a (set_to mode l) →
+    Keeps a (overrun_in mode (set_to mode l))
 overrun_keeps l Recording writing h = stopped_keeps writing h
 overrun_keeps l mode writing h = advanced_keeps (stopped_is_quiet (set_to mode l)) (stopped_keeps writing h)
 
@@ -139,7 +156,9 @@ IsLastWrite None place how = ⊤
 IsLastWrite (Some last) place how = (last.place ≡ place) × (last.how ≡ how)
 
 -- a run that goes on to the place behind
-goes_on_to : (run : Option LastWrite) (mode : Mode) (place pos : ℕ) (backward : Bool) → IsLastWrite run place (how_in mode backward) → IsBehind (how_in mode backward) place pos → GoesOn run mode pos backward
+goes_on_to :
+    (run : Option LastWrite) (mode : Mode) (place pos : ℕ) (backward : Bool) → IsLastWrite run place (how_in mode backward) →
+    IsBehind (how_in mode backward) place pos → GoesOn run mode pos backward
 goes_on_to None mode place pos backward last behind = tt
 goes_on_to (Some w) mode place pos backward last behind =
     (last.1, subst (λ how. IsBehind how w.place pos) (sym last.1) (subst (λ at. IsBehind (how_in mode backward) at pos) (sym last.0) behind))
@@ -150,7 +169,9 @@ directed_over true = refl
 directed_over false = refl
 
 -- the next place is behind the one written
-directed_behind : (backward : Bool) (pos len : ℕ) → wraps backward pos len ≡ false → IsBehind (if backward then Backward else Forward) pos (next_place backward pos)
+directed_behind :
+    (backward : Bool) (pos len : ℕ) → wraps backward pos len ≡ false →
+    IsBehind (if backward then Backward else Forward) pos (next_place backward pos)
 directed_behind true pos len e = (let some : pos ≡ 0 → ⊥ = eqb-false pos 0 e in omega arith)
 directed_behind false pos len e = refl
 
@@ -165,19 +186,25 @@ IsOverwriting Replacing = ⊤
 IsOverwriting Substituting = ⊤
 IsOverwriting _ = ⊥
 
-pub in_overwriting : {A : Type 0} (mode : Mode) (layers redo : List (Layer A)) (pos : ℕ) (backward : Bool) → IsOverwriting mode → AreWritten layers redo pos → InMode mode layers redo pos backward
+pub in_overwriting :
+    {A : Type 0} (mode : Mode) (layers redo : List (Layer A)) (pos : ℕ) (backward : Bool) → IsOverwriting mode →
+    AreWritten layers redo pos → InMode mode layers redo pos backward
 in_overwriting Overdubbing layers redo pos backward is h = h
 in_overwriting Replacing layers redo pos backward is h = h
 in_overwriting Substituting layers redo pos backward is h = h
 in_overwriting _ layers redo pos backward is h = absurd is
 
-overwritten : {A : Type 0} (mode : Mode) (layers redo : List (Layer A)) (pos : ℕ) (backward : Bool) → IsOverwriting mode → InMode mode layers redo pos backward → AreWritten layers redo pos
+overwritten :
+    {A : Type 0} (mode : Mode) (layers redo : List (Layer A)) (pos : ℕ) (backward : Bool) → IsOverwriting mode →
+    InMode mode layers redo pos backward → AreWritten layers redo pos
 overwritten Overdubbing layers redo pos backward is h = h
 overwritten Replacing layers redo pos backward is h = h
 overwritten Substituting layers redo pos backward is h = h
 overwritten _ layers redo pos backward is h = absurd is
 
-run_overwriting : (mode : Mode) (run : Option LastWrite) (pos : ℕ) (backward : Bool) → IsOverwriting mode → GoesOn run mode pos backward → IsRun mode run pos backward
+run_overwriting :
+    (mode : Mode) (run : Option LastWrite) (pos : ℕ) (backward : Bool) → IsOverwriting mode → GoesOn run mode pos backward →
+    IsRun mode run pos backward
 run_overwriting Overdubbing run pos backward is h = h
 run_overwriting Replacing run pos backward is h = h
 run_overwriting Substituting run pos backward is h = h
@@ -193,7 +220,9 @@ module _ {A : Type 0} (a : Aside) (l : Loop A) (x : A) (seams tape : ℕ) (run :
   over mode how = with_stack (written_stack how l.deck.pos x seams tape run l.stack) (set_to mode l)
 
   -- a Recording with one frame more
-  recording_writes : Keeps a (set_to Recording l) → Writes a Append l.deck.pos l.stack seams tape → IsLastWrite run l.deck.pos Append → Keeps a (advanced (over Recording Append))
+  recording_writes :
+      Keeps a (set_to Recording l) → Writes a Append l.deck.pos l.stack seams tape → IsLastWrite run l.deck.pos Append →
+      Keeps a (advanced (over Recording Append))
   recording_writes h w last =
       let longer : current_length (written_layers Append l.deck.pos x seams l.stack.layers) ≡ current_length l.stack.layers + 1 = current_length-added IsRecorded Append l.deck.pos x seams l.stack.layers h.in_mode.0 refl w.inside
       in let at : l.deck.pos ≡ current_length l.stack.layers = h.in_mode.2
@@ -207,7 +236,9 @@ module _ {A : Type 0} (a : Aside) (l : Loop A) (x : A) (seams tape : ℕ) (run :
   stops_keeps false now writing h = h
 
   -- an Inserting with one frame more
-  inserting_writes : Keeps a (set_to Inserting l) → Writes a Insert l.deck.pos l.stack seams tape → IsLastWrite run l.deck.pos Insert → Keeps a (advanced (over Inserting Insert))
+  inserting_writes :
+      Keeps a (set_to Inserting l) → Writes a Insert l.deck.pos l.stack seams tape → IsLastWrite run l.deck.pos Insert →
+      Keeps a (advanced (over Inserting Insert))
   inserting_writes h w last =
       let longer : current_length (written_layers Insert l.deck.pos x seams l.stack.layers) ≡ current_length l.stack.layers + 1 = current_length-added IsOpenOver Insert l.deck.pos x seams l.stack.layers h.in_mode.0.0 refl w.inside
       in let inside : l.deck.pos < current_length l.stack.layers = h.in_mode.0.2
@@ -217,7 +248,11 @@ module _ {A : Type 0} (a : Aside) (l : Loop A) (x : A) (seams tape : ℕ) (run :
       (goes_on_to run Inserting l.deck.pos (l.deck.pos + 1) l.deck.backward last refl))
 
   -- a Multiplying with one frame written
-  multiplying_writes : Keeps a (set_to Multiplying l) → l.deck.pos < length_of l → Writes a (how_in Multiplying l.deck.backward) l.deck.pos l.stack seams tape → IsLastWrite run l.deck.pos (how_in Multiplying l.deck.backward) → Keeps a (advanced (over Multiplying (how_in Multiplying l.deck.backward)))
+  multiplying_writes :
+      Keeps a (set_to Multiplying l) → l.deck.pos < length_of l →
+      Writes a (how_in Multiplying l.deck.backward) l.deck.pos l.stack seams tape →
+      IsLastWrite run l.deck.pos (how_in Multiplying l.deck.backward) →
+      Keeps a (advanced (over Multiplying (how_in Multiplying l.deck.backward)))
   multiplying_writes h inside w last =
       let same : current_length (written_layers (how_in Multiplying l.deck.backward) l.deck.pos x seams l.stack.layers) ≡ current_length l.stack.layers = current_length-over (how_in Multiplying l.deck.backward) l.deck.pos x seams l.stack.layers (directed_over l.deck.backward)
       in stops_keeps l.deck.rounding (at_place (l.deck.pos + 1) (over Multiplying (how_in Multiplying l.deck.backward))) refl
@@ -231,7 +266,8 @@ module _ {A : Type 0} (a : Aside) (l : Loop A) (x : A) (seams tape : ℕ) (run :
 
   -- a mode that writes over its list, at another place
   overwrites_to :
-      (mode : Mode) (pos : ℕ) (goes : Option LastWrite) → IsOverwriting mode → Keeps a (set_to mode l) → Writes a (directed l.deck.backward) l.deck.pos l.stack seams tape → pos < current_length over_layers → GoesOn goes mode pos l.deck.backward →
+      (mode :
+      Mode) (pos : ℕ) (goes : Option LastWrite) → IsOverwriting mode → Keeps a (set_to mode l) → Writes a (directed l.deck.backward) l.deck.pos l.stack seams tape → pos < current_length over_layers → GoesOn goes mode pos l.deck.backward →
       Keeps a (record l { deck = record l.deck { mode = mode; pos = pos }; stack = written_stack (directed l.deck.backward) l.deck.pos x seams tape goes l.stack })
   overwrites_to mode pos goes is h w inside on =
       let now : AreWritten l.stack.layers l.stack.redo l.deck.pos = overwritten mode l.stack.layers l.stack.redo l.deck.pos l.deck.backward is h.in_mode
@@ -249,28 +285,42 @@ module _ {A : Type 0} (a : Aside) (l : Loop A) (x : A) (seams tape : ℕ) (run :
 
   -- a mode that writes over its list, one place on
   overwriting_goes :
-      (mode : Mode) (round : Bool) → wraps l.deck.backward l.deck.pos (current_length over_layers) ≡ round → IsOverwriting mode → Keeps a (set_to mode l) → Writes a (directed l.deck.backward) l.deck.pos l.stack seams tape → IsLastWrite run l.deck.pos (directed l.deck.backward) →
+      (mode :
+      Mode) (round : Bool) → wraps l.deck.backward l.deck.pos (current_length over_layers) ≡ round → IsOverwriting mode → Keeps a (set_to mode l) → Writes a (directed l.deck.backward) l.deck.pos l.stack seams tape → IsLastWrite run l.deck.pos (directed l.deck.backward) →
       Keeps a (goes_on round (over mode (directed l.deck.backward)))
-  overwriting_goes Overdubbing true e is h w last = overwrites_to Overdubbing (wrapped_place l.deck.backward (current_length over_layers)) None tt h w (wrapped_inside l.deck.backward l.deck.pos (current_length over_layers) (over_inside Overdubbing tt h)) tt
-  overwriting_goes Replacing true e is h w last = overwrites_to Replacing (wrapped_place l.deck.backward (current_length over_layers)) None tt h w (wrapped_inside l.deck.backward l.deck.pos (current_length over_layers) (over_inside Replacing tt h)) tt
-  overwriting_goes Substituting true e is h w last = overwrites_to Substituting (wrapped_place l.deck.backward (current_length over_layers)) None tt h w (wrapped_inside l.deck.backward l.deck.pos (current_length over_layers) (over_inside Substituting tt h)) tt
-  overwriting_goes Overdubbing false e is h w last = overwrites_to Overdubbing (next_place l.deck.backward l.deck.pos) run tt h w (next_inside l.deck.backward l.deck.pos (current_length over_layers) (over_inside Overdubbing tt h) e) (goes_on_to run Overdubbing l.deck.pos (next_place l.deck.backward l.deck.pos) l.deck.backward last (directed_behind l.deck.backward l.deck.pos (current_length over_layers) e))
-  overwriting_goes Replacing false e is h w last = overwrites_to Replacing (next_place l.deck.backward l.deck.pos) run tt h w (next_inside l.deck.backward l.deck.pos (current_length over_layers) (over_inside Replacing tt h) e) (goes_on_to run Replacing l.deck.pos (next_place l.deck.backward l.deck.pos) l.deck.backward last (directed_behind l.deck.backward l.deck.pos (current_length over_layers) e))
-  overwriting_goes Substituting false e is h w last = overwrites_to Substituting (next_place l.deck.backward l.deck.pos) run tt h w (next_inside l.deck.backward l.deck.pos (current_length over_layers) (over_inside Substituting tt h) e) (goes_on_to run Substituting l.deck.pos (next_place l.deck.backward l.deck.pos) l.deck.backward last (directed_behind l.deck.backward l.deck.pos (current_length over_layers) e))
+  overwriting_goes Overdubbing true e is h w last =
+      overwrites_to Overdubbing (wrapped_place l.deck.backward (current_length over_layers)) None tt h w (wrapped_inside l.deck.backward l.deck.pos (current_length over_layers) (over_inside Overdubbing tt h)) tt
+  overwriting_goes Replacing true e is h w last =
+      overwrites_to Replacing (wrapped_place l.deck.backward (current_length over_layers)) None tt h w (wrapped_inside l.deck.backward l.deck.pos (current_length over_layers) (over_inside Replacing tt h)) tt
+  overwriting_goes Substituting true e is h w last =
+      overwrites_to Substituting (wrapped_place l.deck.backward (current_length over_layers)) None tt h w (wrapped_inside l.deck.backward l.deck.pos (current_length over_layers) (over_inside Substituting tt h)) tt
+  overwriting_goes Overdubbing false e is h w last =
+      overwrites_to Overdubbing (next_place l.deck.backward l.deck.pos) run tt h w (next_inside l.deck.backward l.deck.pos (current_length over_layers) (over_inside Overdubbing tt h) e) (goes_on_to run Overdubbing l.deck.pos (next_place l.deck.backward l.deck.pos) l.deck.backward last (directed_behind l.deck.backward l.deck.pos (current_length over_layers) e))
+  overwriting_goes Replacing false e is h w last =
+      overwrites_to Replacing (next_place l.deck.backward l.deck.pos) run tt h w (next_inside l.deck.backward l.deck.pos (current_length over_layers) (over_inside Replacing tt h) e) (goes_on_to run Replacing l.deck.pos (next_place l.deck.backward l.deck.pos) l.deck.backward last (directed_behind l.deck.backward l.deck.pos (current_length over_layers) e))
+  overwriting_goes Substituting false e is h w last =
+      overwrites_to Substituting (next_place l.deck.backward l.deck.pos) run tt h w (next_inside l.deck.backward l.deck.pos (current_length over_layers) (over_inside Substituting tt h) e) (goes_on_to run Substituting l.deck.pos (next_place l.deck.backward l.deck.pos) l.deck.backward last (directed_behind l.deck.backward l.deck.pos (current_length over_layers) e))
   overwriting_goes _ round e is h w last = absurd is
 
   -- a write in each writing mode, and the advance behind it
-  writes_on : (mode : Mode) → is_writing mode ≡ true → IsReady a (set_to mode l) → Writes a (how_in mode l.deck.backward) l.deck.pos l.stack seams tape → IsLastWrite run l.deck.pos (how_in mode l.deck.backward) → Keeps a (advanced (over mode (how_in mode l.deck.backward)))
+  writes_on :
+      (mode : Mode) → is_writing mode ≡ true → IsReady a (set_to mode l) →
+      Writes a (how_in mode l.deck.backward) l.deck.pos l.stack seams tape →
+      IsLastWrite run l.deck.pos (how_in mode l.deck.backward) → Keeps a (advanced (over mode (how_in mode l.deck.backward)))
   writes_on Recording writing h w last = recording_writes h.0 w last
   writes_on Inserting writing h w last = inserting_writes h.0 w last
   writes_on Multiplying writing h w last = multiplying_writes h.0 h.1 w last
-  writes_on Overdubbing writing h w last = overwriting_goes Overdubbing (wraps l.deck.backward l.deck.pos (current_length over_layers)) refl tt h.0 w last
+  writes_on Overdubbing writing h w last =
+      overwriting_goes Overdubbing (wraps l.deck.backward l.deck.pos (current_length over_layers)) refl tt h.0 w last
   writes_on Replacing writing h w last = overwriting_goes Replacing (wraps l.deck.backward l.deck.pos (current_length over_layers)) refl tt h.0 w last
-  writes_on Substituting writing h w last = overwriting_goes Substituting (wraps l.deck.backward l.deck.pos (current_length over_layers)) refl tt h.0 w last
+  writes_on Substituting writing h w last =
+      overwriting_goes Substituting (wraps l.deck.backward l.deck.pos (current_length over_layers)) refl tt h.0 w last
   writes_on _ writing h w last = absurd (let none : ⊥ = Prim.cc in none)
 
 -- in a writing mode pos is a place for the next write
-writing_inside : {A : Type 0} (mode : Mode) (layers redo : List (Layer A)) (pos : ℕ) (backward : Bool) → is_writing mode ≡ true → InMode mode layers redo pos backward → pos ≤ current_length layers
+writing_inside :
+    {A : Type 0} (mode : Mode) (layers redo : List (Layer A)) (pos : ℕ) (backward : Bool) → is_writing mode ≡ true →
+    InMode mode layers redo pos backward → pos ≤ current_length layers
 writing_inside Recording layers redo pos backward writing h = (let same = h.2 in omega arith)
 writing_inside Inserting layers redo pos backward writing h = (let inside = h.0.2 in omega arith)
 writing_inside Multiplying layers redo pos backward writing h = h.2
@@ -296,12 +346,17 @@ written_keeps {a = a} {l = l} x writing h e =
     (λ none. writes_on a l x (if is_some l.stack.run then 0 else 2) (l.stack.tape + 1) (Some (record { place = l.deck.pos; how = how })) l.deck.mode writing h (new_fits how l.deck.pos h.0 inside (new_cell (meets_fresh how l.deck.pos l.stack) (new_cell_fits a.reach how l.stack) e none)) (refl, refl))
 
 -- a frame in a writing mode
-writes_keeps : {a : Aside} {l : Loop Sound} (fit : Bool) (x : Sound) → fits a.reach l ≡ fit → is_writing l.deck.mode ≡ true → IsReady a l → Keeps a (writes fit x l)
-writes_keeps {l = l} true x e writing h = written_keeps (new_frame l.deck.mode l.controls.feedback (sound_at (current_list l.stack.layers) l.deck.pos) x) writing h e
+writes_keeps :
+    {a : Aside} {l : Loop Sound} (fit : Bool) (x : Sound) → fits a.reach l ≡ fit → is_writing l.deck.mode ≡ true → IsReady a l →
+    Keeps a (writes fit x l)
+writes_keeps {l = l} true x e writing h =
+    written_keeps (new_frame l.deck.mode l.controls.feedback (sound_at (current_list l.stack.layers) l.deck.pos) x) writing h e
 writes_keeps {l = l} false x e writing h = overrun_keeps l l.deck.mode writing h.0
 
 -- a frame
-passes_keeps : {a : Aside} {l : Loop Sound} (writing : Bool) (x : Sound) → is_writing l.deck.mode ≡ writing → IsReady a l → Keeps a (passes writing x a.reach l)
+passes_keeps :
+    {a : Aside} {l : Loop Sound} (writing : Bool) (x : Sound) → is_writing l.deck.mode ≡ writing → IsReady a l →
+    Keeps a (passes writing x a.reach l)
 passes_keeps {a = a} {l = l} true x e h = writes_keeps (fits a.reach l) x refl e h
 passes_keeps false x e h = advanced_keeps e h.0
 

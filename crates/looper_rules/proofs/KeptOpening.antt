@@ -38,13 +38,17 @@ new_layer-seams false tape [] = refl
 new_layer-seams false tape (l ∷ ls) = refl
 
 -- its list is no longer than another
-new_layer_short : {A : Type 0} (empty : Bool) (tape last : ℕ) (layers : List (Layer A)) → AreWithin last layers → length (new_layer empty tape layers).cells ≤ max_length
+new_layer_short :
+    {A : Type 0} (empty : Bool) (tape last : ℕ) (layers : List (Layer A)) → AreWithin last layers →
+    length (new_layer empty tape layers).cells ≤ max_length
 new_layer_short true tape last layers within = omega arith
 new_layer_short false tape last [] within = omega arith
 new_layer_short false tape last (l ∷ ls) within = rw length-unmarked within.0.0
 
 -- a layer that is opened over a list is a copy of it
-copies : {A : Type 0} (tape pos : ℕ) (layers : List (Layer A)) → ArePlayable layers pos → IsOpenOver (new_layer false tape layers) × (pos < length (new_layer false tape layers).cells)
+copies :
+    {A : Type 0} (tape pos : ℕ) (layers : List (Layer A)) → ArePlayable layers pos →
+    IsOpenOver (new_layer false tape layers) × (pos < length (new_layer false tape layers).cells)
 copies tape pos [] playable = absurd (omega arith)
 copies tape pos (l ∷ ls) (closed, inside) = (
   record {
@@ -66,7 +70,8 @@ opened_stack reach empty s h order ok =
     in let new : Layer _ = new_layer empty (opening_tape s) s.layers
     in let under : current_end s.layers ≤ opening_tape s = omega arith
     in record {
-      layers_within = ((new_layer_short empty (opening_tape s) s.tape s.layers h.layers_within, (let e : new.end ≡ opening_tape s = new_layer-end empty (opening_tape s) s.layers in omega arith)), ordered_within (opening_tape s) s.tape s.layers order under h.layers_within);
+      layers_within =
+          ((new_layer_short empty (opening_tape s) s.tape s.layers h.layers_within, (let e : new.end ≡ opening_tape s = new_layer-end empty (opening_tape s) s.layers in omega arith)), ordered_within (opening_tape s) s.tape s.layers order under h.layers_within);
       redo_within = tt;
       pin_within = omega arith;
       count = omega arith;
@@ -86,7 +91,9 @@ opening_order : {A : Type 0} (empty : Bool) (s : Stack A) → AreOrdered s.layer
 opening_order empty s order = ((let e = new_layer-end empty (opening_tape s) s.layers in omega arith), order)
 
 -- opening for `record`
-pub opens_record : {A : Type 0} {a : Aside} {l : Loop A} (reach : ℕ) → Keeps a l → AreClosed l.stack.layers → opening reach true l.stack ≡ Ok → Keeps a (records Ok l)
+pub opens_record :
+    {A : Type 0} {a : Aside} {l : Loop A} (reach : ℕ) → Keeps a l → AreClosed l.stack.layers → opening reach true l.stack ≡ Ok →
+    Keeps a (records Ok l)
 opens_record {l = l} reach h closed ok =
     record {
       in_mode = ((record { no_base = refl; no_base_seams = refl; no_cycle = refl }, closed), refl, refl, refl);
@@ -102,7 +109,9 @@ opens_record {l = l} reach h closed ok =
     }
 
 -- layers that are written are those of such a mode
-pub written_in : {A : Type 0} (mode : Mode) (layers redo : List (Layer A)) (pos : ℕ) (backward : Bool) → IsLayering mode backward → AreWritten layers redo pos → InMode mode layers redo pos backward
+pub written_in :
+    {A : Type 0} (mode : Mode) (layers redo : List (Layer A)) (pos : ℕ) (backward : Bool) → IsLayering mode backward →
+    AreWritten layers redo pos → InMode mode layers redo pos backward
 written_in Overdubbing layers redo pos backward way h = h
 written_in Replacing layers redo pos backward way h = h
 written_in Substituting layers redo pos backward way h = h
@@ -111,7 +120,9 @@ written_in Multiplying layers redo pos backward way h = (h.0, h.1, (let below : 
 written_in _ layers redo pos backward way h = absurd way
 
 -- opening for another writing verb
-pub opens_over : {A : Type 0} {a : Aside} {l : Loop A} (reach : ℕ) (mode : Mode) → IsLayering mode l.deck.backward → Keeps a l → ArePlayable l.stack.layers l.deck.pos → opening reach false l.stack ≡ Ok → Keeps a (layers_on Ok mode l)
+pub opens_over :
+    {A : Type 0} {a : Aside} {l : Loop A} (reach : ℕ) (mode : Mode) → IsLayering mode l.deck.backward → Keeps a l →
+    ArePlayable l.stack.layers l.deck.pos → opening reach false l.stack ≡ Ok → Keeps a (layers_on Ok mode l)
 opens_over {l = l} reach mode way h playable ok =
     let copied = copies (opening_tape l.stack) l.deck.pos l.stack.layers playable
     in record {
@@ -128,7 +139,9 @@ opens_over {l = l} reach mode way h playable ok =
     }
 
 -- starting `record`, by what becomes of the opening
-records_as : {A : Type 0} {a : Aside} {l : Loop A} (answer : Started) → (answer ≡ Ok → Keeps a (records Ok l)) → Keeps a l → Keeps a (records answer l)
+records_as :
+    {A : Type 0} {a : Aside} {l : Loop A} (answer : Started) → (answer ≡ Ok → Keeps a (records Ok l)) → Keeps a l →
+    Keeps a (records answer l)
 records_as Ok opens h = opens refl
 records_as _ opens h = refused_keeps h
 
@@ -136,9 +149,13 @@ pub records_keeps : {A : Type 0} {a : Aside} {l : Loop A} (reach : ℕ) → Keep
 records_keeps {l = l} reach h closed = records_as (opening reach true l.stack) (opens_record reach h closed) h
 
 -- starting another writing verb, by what becomes of the opening
-layers_on_as : {A : Type 0} {a : Aside} {l : Loop A} (answer : Started) (mode : Mode) → (answer ≡ Ok → Keeps a (layers_on Ok mode l)) → Keeps a l → Keeps a (layers_on answer mode l)
+layers_on_as :
+    {A : Type 0} {a : Aside} {l : Loop A} (answer : Started) (mode : Mode) → (answer ≡ Ok → Keeps a (layers_on Ok mode l)) →
+    Keeps a l → Keeps a (layers_on answer mode l)
 layers_on_as Ok mode opens h = opens refl
 layers_on_as _ mode opens h = refused_keeps h
 
-pub starts_keeps : {A : Type 0} {a : Aside} {l : Loop A} (reach : ℕ) (mode : Mode) → IsLayering mode l.deck.backward → Keeps a l → ArePlayable l.stack.layers l.deck.pos → Keeps a (starts mode reach l)
+pub starts_keeps :
+    {A : Type 0} {a : Aside} {l : Loop A} (reach : ℕ) (mode : Mode) → IsLayering mode l.deck.backward → Keeps a l →
+    ArePlayable l.stack.layers l.deck.pos → Keeps a (starts mode reach l)
 starts_keeps {l = l} reach mode way h playable = layers_on_as (opening reach false l.stack) mode (opens_over reach mode way h playable) h

@@ -49,11 +49,15 @@ pub given_keeps : {A : Type 0} {a : Aside} {l : Loop A} (verb : Verb) (reach : �
 given_keeps {l = l} verb reach h = given_keeps_as (l.controls.quantize == 0 || never_waits verb) verb reach h
 
 -- a press
-pub pressed_keeps : {A : Type 0} {a : Aside} {l : Loop A} (verb : Verb) (frame reach : ℕ) → Keeps a l → Keeps (with_press_of (Some (record { verb = verb; frame = frame })) a) (pressed verb frame reach l)
+pub pressed_keeps :
+    {A : Type 0} {a : Aside} {l : Loop A} (verb : Verb) (frame reach : ℕ) → Keeps a l →
+    Keeps (with_press_of (Some (record { verb = verb; frame = frame })) a) (pressed verb frame reach l)
 pressed_keeps verb frame reach h = with_press_keeps (Some (record { verb = verb; frame = frame })) (given_keeps verb reach h)
 
 -- the end of a press
-released_long_keeps : {A : Type 0} {a : Aside} {l : Loop A} (long : Bool) (verb : Verb) (reach : ℕ) → Keeps a l → Keeps (with_press_of None a) (released_long long verb reach l)
+released_long_keeps :
+    {A : Type 0} {a : Aside} {l : Loop A} (long : Bool) (verb : Verb) (reach : ℕ) → Keeps a l →
+    Keeps (with_press_of None a) (released_long long verb reach l)
 released_long_keeps true verb reach h = given_keeps verb reach (with_press_keeps None h)
 released_long_keeps false verb reach h = with_press_keeps None h
 
@@ -61,12 +65,16 @@ released_long_keeps false verb reach h = with_press_keeps None h
 abbrev pub IsReleased : {A : Type 0} → Aside → Loop A → Type 0
 IsReleased a l = Keeps (with_press_of l.deck.press a) l × ((frame : ℕ) → IsPressBefore frame a.press → IsPressBefore frame l.deck.press)
 
-released_as : {A : Type 0} {a : Aside} {l : Loop A} (long : Bool) (verb : Verb) (reach : ℕ) → Keeps a l → IsReleased a (released_long long verb reach l)
+released_as :
+    {A : Type 0} {a : Aside} {l : Loop A} (long : Bool) (verb : Verb) (reach : ℕ) → Keeps a l →
+    IsReleased a (released_long long verb reach l)
 released_as long verb reach h =
     let now = released_long_keeps long verb reach h
     in (own_press now, λ frame before. subst (λ p. IsPressBefore frame p) (sym now.press) tt)
 
-pub released_keeps : {A : Type 0} {a : Aside} {l : Loop A} (verb : Verb) (frame long_press reach : ℕ) → Keeps a l → IsReleased a (released verb frame long_press reach l)
+pub released_keeps :
+    {A : Type 0} {a : Aside} {l : Loop A} (verb : Verb) (frame long_press reach : ℕ) → Keeps a l →
+    IsReleased a (released verb frame long_press reach l)
 released_keeps {a = a} {l = l} verb frame long_press reach h =
     cond_both (is_press_of verb l.deck.press) (released_long (is_long frame long_press l.deck.press && is_mode_of verb l.deck.mode) verb reach l) l (λ r. IsReleased a r)
     (λ same. released_as _ verb reach h)

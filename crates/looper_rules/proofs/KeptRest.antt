@@ -15,7 +15,9 @@ not_both : (b : Bool) → b ≡ true → b ≡ false → ⊥
 not_both b is isnt = Prim.cc
 
 -- outside the writing modes all layers are closed
-pub closed_layers : {A : Type 0} (mode : Mode) (layers redo : List (Layer A)) (pos : ℕ) (backward : Bool) → is_writing mode ≡ false → InMode mode layers redo pos backward → AreClosed layers
+pub closed_layers :
+    {A : Type 0} (mode : Mode) (layers redo : List (Layer A)) (pos : ℕ) (backward : Bool) → is_writing mode ≡ false →
+    InMode mode layers redo pos backward → AreClosed layers
 closed_layers Off layers redo pos backward quiet h = subst (λ ls. AreClosed ls) (sym h.0) tt
 closed_layers WaitStart [] redo pos backward quiet h = tt
 closed_layers WaitStart (l ∷ ls) redo pos backward quiet h = h.0.0
@@ -28,7 +30,9 @@ closed_layers Substituting layers redo pos backward quiet h = absurd (not_both t
 closed_layers _ layers redo pos backward quiet h = h.0.0
 
 -- and all redo layers
-pub closed_redo : {A : Type 0} (mode : Mode) (layers redo : List (Layer A)) (pos : ℕ) (backward : Bool) → is_writing mode ≡ false → InMode mode layers redo pos backward → AreClosed redo
+pub closed_redo :
+    {A : Type 0} (mode : Mode) (layers redo : List (Layer A)) (pos : ℕ) (backward : Bool) → is_writing mode ≡ false →
+    InMode mode layers redo pos backward → AreClosed redo
 closed_redo Recording layers redo pos backward quiet h = absurd (not_both true refl quiet)
 closed_redo Overdubbing layers redo pos backward quiet h = absurd (not_both true refl quiet)
 closed_redo Multiplying layers redo pos backward quiet h = absurd (not_both true refl quiet)
@@ -38,7 +42,9 @@ closed_redo Substituting layers redo pos backward quiet h = absurd (not_both tru
 closed_redo _ layers redo pos backward quiet h = h.1
 
 -- there pos lies in the list of the current layer
-pub waiting_layers : {A : Type 0} (mode : Mode) (layers redo : List (Layer A)) (pos : ℕ) (backward : Bool) → is_writing mode ≡ false → InMode mode layers redo pos backward → AreWaiting layers pos
+pub waiting_layers :
+    {A : Type 0} (mode : Mode) (layers redo : List (Layer A)) (pos : ℕ) (backward : Bool) → is_writing mode ≡ false →
+    InMode mode layers redo pos backward → AreWaiting layers pos
 waiting_layers Off [] redo pos backward quiet h = tt
 waiting_layers Off (l ∷ ls) redo pos backward quiet h = absurd (let none : ⊥ = Prim.cc (h.0) in none)
 waiting_layers WaitStart layers redo pos backward quiet h = h.0
@@ -52,7 +58,9 @@ waiting_layers _ [] redo pos backward quiet h = tt
 waiting_layers _ (l ∷ ls) redo pos backward quiet h = h.0
 
 -- no run goes on there
-pub quiet_run : (mode : Mode) (run : Option LastWrite) (pos : ℕ) (backward : Bool) → is_writing mode ≡ false → IsRun mode run pos backward → run ≡ None
+pub quiet_run :
+    (mode : Mode) (run : Option LastWrite) (pos : ℕ) (backward : Bool) → is_writing mode ≡ false → IsRun mode run pos backward →
+    run ≡ None
 quiet_run Recording run pos backward quiet h = absurd (not_both true refl quiet)
 quiet_run Overdubbing run pos backward quiet h = absurd (not_both true refl quiet)
 quiet_run Multiplying run pos backward quiet h = absurd (not_both true refl quiet)
@@ -61,7 +69,9 @@ quiet_run Replacing run pos backward quiet h = absurd (not_both true refl quiet)
 quiet_run Substituting run pos backward quiet h = absurd (not_both true refl quiet)
 quiet_run _ run pos backward quiet h = h
 
-pub run_in_quiet : (mode : Mode) (run : Option LastWrite) (pos : ℕ) (backward : Bool) → is_writing mode ≡ false → run ≡ None → IsRun mode run pos backward
+pub run_in_quiet :
+    (mode : Mode) (run : Option LastWrite) (pos : ℕ) (backward : Bool) → is_writing mode ≡ false → run ≡ None →
+    IsRun mode run pos backward
 run_in_quiet Recording run pos backward quiet h = absurd (not_both true refl quiet)
 run_in_quiet Overdubbing run pos backward quiet h = absurd (not_both true refl quiet)
 run_in_quiet Multiplying run pos backward quiet h = absurd (not_both true refl quiet)
@@ -71,7 +81,9 @@ run_in_quiet Substituting run pos backward quiet h = absurd (not_both true refl 
 run_in_quiet _ run pos backward quiet h = h
 
 -- a list that isn't empty can be played in each of these modes but Off
-pub in_quiet : {A : Type 0} (mode : Mode) (l : Layer A) (ls redo : List (Layer A)) (pos : ℕ) (backward : Bool) → is_writing mode ≡ false → is_off mode ≡ false → ArePlayable (l ∷ ls) pos → AreClosed redo → InMode mode (l ∷ ls) redo pos backward
+pub in_quiet :
+    {A : Type 0} (mode : Mode) (l : Layer A) (ls redo : List (Layer A)) (pos : ℕ) (backward : Bool) → is_writing mode ≡ false →
+    is_off mode ≡ false → ArePlayable (l ∷ ls) pos → AreClosed redo → InMode mode (l ∷ ls) redo pos backward
 in_quiet Off l ls redo pos backward quiet on h closed = absurd (not_both true refl on)
 in_quiet Recording l ls redo pos backward quiet on h closed = absurd (not_both true refl quiet)
 in_quiet Overdubbing l ls redo pos backward quiet on h closed = absurd (not_both true refl quiet)
@@ -97,14 +109,18 @@ resting_is_quiet Paused rests = refl
 resting_is_quiet _ rests = absurd rests
 
 -- its list can be played
-pub playable : {A : Type 0} (mode : Mode) (layers redo : List (Layer A)) (pos : ℕ) (backward : Bool) → IsResting mode → InMode mode layers redo pos backward → ArePlayable layers pos × AreClosed redo
+pub playable :
+    {A : Type 0} (mode : Mode) (layers redo : List (Layer A)) (pos : ℕ) (backward : Bool) → IsResting mode →
+    InMode mode layers redo pos backward → ArePlayable layers pos × AreClosed redo
 playable Playing layers redo pos backward rests h = h
 playable Muted layers redo pos backward rests h = h
 playable OneShot layers redo pos backward rests h = h
 playable Paused layers redo pos backward rests h = h
 playable _ layers redo pos backward rests h = absurd rests
 
-pub in_resting : {A : Type 0} (mode : Mode) (layers redo : List (Layer A)) (pos : ℕ) (backward : Bool) → IsResting mode → ArePlayable layers pos × AreClosed redo → InMode mode layers redo pos backward
+pub in_resting :
+    {A : Type 0} (mode : Mode) (layers redo : List (Layer A)) (pos : ℕ) (backward : Bool) → IsResting mode →
+    ArePlayable layers pos × AreClosed redo → InMode mode layers redo pos backward
 in_resting Playing layers redo pos backward rests h = h
 in_resting Muted layers redo pos backward rests h = h
 in_resting OneShot layers redo pos backward rests h = h
@@ -113,7 +129,8 @@ in_resting _ layers redo pos backward rests h = absurd rests
 
 -- a loop goes from one such mode to another, to another place in its list and another direction
 pub rests_again :
-    {A : Type 0} {a : Aside} {l : Loop A} (mode : Mode) (pos : ℕ) (backward : Bool) → IsResting l.deck.mode → IsResting mode → pos < length_of l → Keeps a l →
+    {A :
+    Type 0} {a : Aside} {l : Loop A} (mode : Mode) (pos : ℕ) (backward : Bool) → IsResting l.deck.mode → IsResting mode → pos < length_of l → Keeps a l →
     Keeps a (record l { deck = record l.deck { mode = mode; pos = pos; backward = backward } })
 rests_again {l = l} mode pos backward before now inside h =
     let can : ArePlayable l.stack.layers l.deck.pos × AreClosed l.stack.redo = playable l.deck.mode l.stack.layers l.stack.redo l.deck.pos l.deck.backward before h.in_mode

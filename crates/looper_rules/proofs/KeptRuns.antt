@@ -18,7 +18,8 @@ use Rattle.looper_rules.proofs.KeptEntries.{on_tracks, free_and_used, applied_ke
 
 -- the boundaries of a frame
 at_boundaries_keeps : {frame : ℕ} {l : Looper} (now : ℕ) → KeepsLooper frame l → KeepsLooper frame (at_boundaries now l)
-at_boundaries_keeps {frame = frame} {l = l} now h = on_tracks All (on_loop (at_boundary l.globals now (faces_of l))) (on_loop_keeps frame (at_boundary l.globals now (faces_of l)) (at_boundary_keeps l.globals now (faces_of l))) h
+at_boundaries_keeps {frame = frame} {l = l} now h =
+    on_tracks All (on_loop (at_boundary l.globals now (faces_of l))) (on_loop_keeps frame (at_boundary l.globals now (faces_of l)) (at_boundary_keeps l.globals now (faces_of l))) h
 
 -- a frame whose boundaries were met
 framed_from_keeps : {frame : ℕ} {l : Looper} (x : Sound) → KeepsLooper frame l → KeepsLooper (frame + 1) (framed_from x l).looper
@@ -45,7 +46,9 @@ entered_keeps frame [] l h = h
 entered_keeps frame (e ∷ es) l h = entered_keeps frame es (applied frame e l) (applied_keeps frame e h)
 
 -- some frames
-pub begun_keeps : (frame : ℕ) (es : List Entry) (xs : List Sound) (l : Looper) → KeepsLooper frame l → KeepsLooper (frame + length xs) (begun frame es xs l).looper
+pub begun_keeps :
+    (frame : ℕ) (es : List Entry) (xs : List Sound) (l : Looper) → KeepsLooper frame l →
+    KeepsLooper (frame + length xs) (begun frame es xs l).looper
 begun_keeps frame es [] l h = rw add-zero h
 begun_keeps frame es (x ∷ xs) l h =
     let before : KeepsLooper frame (entered frame (due frame es) l).looper = entered_keeps frame (due frame es) l h

@@ -32,10 +32,13 @@ cleared_recorded : {A : Type 0} (l : Layer A) → IsRecorded l → IsRecorded (u
 cleared_recorded l h = record { no_base = h.no_base; no_base_seams = h.no_base_seams; no_cycle = h.no_cycle }
 
 cleared_open : {A : Type 0} (l : Layer A) → IsOpenOver l → IsOpenOver (unmarked_layer l)
-cleared_open l h = record { base_not_empty = h.base_not_empty; base_within = rw length-unmarked h.base_within; cycle_from = h.cycle_from; cycle_to = h.cycle_to }
+cleared_open l h =
+    record { base_not_empty = h.base_not_empty; base_within = rw length-unmarked h.base_within; cycle_from = h.cycle_from; cycle_to = h.cycle_to }
 
 -- and all layers
-cleared_current : {A : Type 0} (Kind : Layer A → Type 0) (layers : List (Layer A)) → ((l : Layer A) → Kind l → Kind (unmarked_layer l)) → HasCurrent Kind layers → HasCurrent Kind (cleared layers)
+cleared_current :
+    {A : Type 0} (Kind : Layer A → Type 0) (layers : List (Layer A)) → ((l : Layer A) → Kind l → Kind (unmarked_layer l)) →
+    HasCurrent Kind layers → HasCurrent Kind (cleared layers)
 cleared_current Kind [] clears has = absurd has
 cleared_current Kind (l ∷ ls) clears has = (clears l has.0, has.1)
 
@@ -60,7 +63,9 @@ cleared_written : {A : Type 0} (layers redo : List (Layer A)) (pos : ℕ) → Ar
 cleared_written layers redo pos h = (cleared_current IsOpenOver layers cleared_open h.0, h.1, rw cleared_length h.2)
 
 -- what each mode says still holds
-cleared_in_mode : {A : Type 0} (mode : Mode) (layers redo : List (Layer A)) (pos : ℕ) (backward : Bool) → InMode mode layers redo pos backward → InMode mode (cleared layers) redo pos backward
+cleared_in_mode :
+    {A : Type 0} (mode : Mode) (layers redo : List (Layer A)) (pos : ℕ) (backward : Bool) → InMode mode layers redo pos backward →
+    InMode mode (cleared layers) redo pos backward
 cleared_in_mode Off layers redo pos backward h = (subst (λ ls. cleared ls ≡ []) (sym h.0) refl, h.1)
 cleared_in_mode WaitStart layers redo pos backward h = (cleared_waiting layers pos h.0, h.1)
 cleared_in_mode Recording layers redo pos backward h = (cleared_current IsRecorded layers cleared_recorded h.0, h.1, rw cleared_length h.2, h.3)

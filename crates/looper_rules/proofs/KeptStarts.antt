@@ -34,7 +34,9 @@ record InStrip (s : StripSettings) : Type 0 where
   controls : AreControls (controls_of s)
 
 -- seven tests at once
-all_seven : (a b c d e f g : Bool) → (a && b && c && d && e && f && g) ≡ true → (a ≡ true) × (b ≡ true) × (c ≡ true) × (d ≡ true) × (e ≡ true) × (f ≡ true) × (g ≡ true)
+all_seven :
+    (a b c d e f g : Bool) → (a && b && c && d && e && f && g) ≡ true →
+    (a ≡ true) × (b ≡ true) × (c ≡ true) × (d ≡ true) × (e ≡ true) × (f ≡ true) × (g ≡ true)
 all_seven a b c d e f g h =
     let six = and_parts (a && b && c && d && e && f) g h
     in let five = and_parts (a && b && c && d && e) f six.0
@@ -50,7 +52,9 @@ in_strip s h =
     in record { length_to = leb-true s.length max_length seven.0; cycle = seven.1; controls = record { feedback = seven.2; wet = seven.3; round = seven.4; quantize = seven.5; rec_thresh = seven.6 } }
 
 -- the layer of a list that is loaded
-loaded_closed : {A : Type 0} (x : A) (xs : List A) (cycle end : ℕ) → is_cycle_of (suc (length xs)) cycle ≡ true → IsClosed (loaded_layer (x ∷ xs) cycle end)
+loaded_closed :
+    {A : Type 0} (x : A) (xs : List A) (cycle end : ℕ) → is_cycle_of (suc (length xs)) cycle ≡ true →
+    IsClosed (loaded_layer (x ∷ xs) cycle end)
 loaded_closed x xs cycle end fits =
     let parts = and_parts (nat_le 1 cycle) (nat_le cycle (suc (length xs))) fits
     in let same : length (old_cells (x ∷ xs)) ≡ suc (length xs) = length-map (x ∷ xs) old_cell
@@ -65,7 +69,9 @@ loaded_closed x xs cycle end fits =
     }
 
 -- a track that begins with this list
-first_keeps : (chunks : ℕ) (list : List Sound) (s : StripSettings) → is_strip s ≡ true → length list ≡ s.length → chunks_of (length list) ≤ chunks → KeepsTrack chunks 0 (first_track list s)
+first_keeps :
+    (chunks : ℕ) (list : List Sound) (s : StripSettings) → is_strip s ≡ true → length list ≡ s.length →
+    chunks_of (length list) ≤ chunks → KeepsTrack chunks 0 (first_track list s)
 first_keeps chunks [] s valid same within =
     let strip = in_strip s valid
     in record {
@@ -95,7 +101,8 @@ first_keeps chunks (x ∷ xs) s valid same within =
       loop = record {
         in_mode = (((closed, tt), closed.not_empty), tt);
         run = refl;
-        stack = record { layers_within = (((let short : length (old_cells (x ∷ xs)) ≤ max_length = omega arith in short), all), tt); redo_within = tt; pin_within = omega arith; count = omega arith; seams = omega arith };
+        stack =
+            record { layers_within = (((let short : length (old_cells (x ∷ xs)) ≤ max_length = omega arith in short), all), tt); redo_within = tt; pin_within = omega arith; count = omega arith; seams = omega arith };
         order = (omega arith, tt);
         redo_order = tt;
         refused = omega arith;
@@ -120,7 +127,9 @@ record AreFirst (chunks : ℕ) (strips : List StripSettings) (lists : List (List
   uses : used (map tape_of (first_tracks strips lists)) ≡ used (map length lists)
   count : length (first_tracks strips lists) ≡ length strips
 
-first_all : (chunks : ℕ) (strips : List StripSettings) (lists : List (List Sound)) → are_strips strips ≡ true → AreLists strips lists → used (map length lists) ≤ chunks → AreFirst chunks strips lists
+first_all :
+    (chunks : ℕ) (strips : List StripSettings) (lists : List (List Sound)) → are_strips strips ≡ true → AreLists strips lists →
+    used (map length lists) ≤ chunks → AreFirst chunks strips lists
 first_all chunks [] [] valid agree within = record { tracks = tt; uses = refl; count = refl }
 first_all chunks [] (list ∷ lists) valid agree within = absurd agree
 first_all chunks (s ∷ ss) [] valid agree within =
@@ -148,7 +157,9 @@ first_all chunks (s ∷ ss) (list ∷ lists) valid agree within =
     }
 
 -- the looper that a run begins with
-pub start_keeps : (settings : LooperSettings) (chunks : ℕ) (lists : List (List Sound)) → IsBeginning settings chunks lists → KeepsLooper 0 (start settings chunks lists)
+pub start_keeps :
+    (settings : LooperSettings) (chunks : ℕ) (lists : List (List Sound)) → IsBeginning settings chunks lists →
+    KeepsLooper 0 (start settings chunks lists)
 start_keeps settings chunks lists h =
     let parts = and_parts (is_rate settings.rate && is_loop_count (length settings.strips) && are_globals (length settings.strips) settings.globals) (are_strips settings.strips) h.in_range
     in let globals = and_parts (is_rate settings.rate && is_loop_count (length settings.strips)) (are_globals (length settings.strips) settings.globals) parts.0
@@ -160,7 +171,8 @@ start_keeps settings chunks lists h =
       tracks = first.tracks;
       count = subst (λ n. IsTrue (is_loop_count n)) (sym first.count) counts.1;
       globals = subst (λ n. IsTrue (are_globals n settings.globals)) (sym first.count) globals.1;
-      dry = leb-true settings.globals.dry 1000 (and_parts (nat_le 0 settings.globals.dry) (nat_le settings.globals.dry 1000) (dry_range (length settings.strips) settings.globals globals.1)).1;
+      dry =
+          leb-true settings.globals.dry 1000 (and_parts (nat_le 0 settings.globals.dry) (nat_le settings.globals.dry 1000) (dry_range (length settings.strips) settings.globals globals.1)).1;
       used_chunks = omega arith;
     }
 
@@ -187,12 +199,16 @@ open_cycle (l ∷ ls) has =
     in let to : l.cycle ≤ length l.base = has.0.cycle_to
     in cycle_of_some (length l.cells) l.cycle (omega arith) has.0.cycle_from (omega arith)
 
-waiting_cycle : {A : Type 0} (layers : List (Layer A)) (at : ℕ) → AreWaiting layers at → is_cycle_of (current_length layers) (current_cycle layers) ≡ true
+waiting_cycle :
+    {A : Type 0} (layers : List (Layer A)) (at : ℕ) → AreWaiting layers at →
+    is_cycle_of (current_length layers) (current_cycle layers) ≡ true
 waiting_cycle [] at h = refl
 waiting_cycle (l ∷ ls) at h = closed_cycle (l ∷ ls) h.0
 
 -- and by the mode
-told_in_mode : {A : Type 0} (mode : Mode) (layers redo : List (Layer A)) (at : ℕ) (backward : Bool) → InMode mode layers redo at backward → is_cycle_of (current_length layers) (told_cycle mode (current_length layers) (current_cycle layers)) ≡ true
+told_in_mode :
+    {A : Type 0} (mode : Mode) (layers redo : List (Layer A)) (at : ℕ) (backward : Bool) → InMode mode layers redo at backward →
+    is_cycle_of (current_length layers) (told_cycle mode (current_length layers) (current_cycle layers)) ≡ true
 told_in_mode Off layers redo at backward h = subst (λ ls. is_cycle_of (current_length ls) (current_cycle ls) ≡ true) (sym h.0) refl
 told_in_mode WaitStart layers redo at backward h = waiting_cycle layers at h.0
 told_in_mode Recording layers redo at backward h = cycle_of_all (current_length layers)
@@ -221,27 +237,37 @@ pub loop_holds : {A : Type 0} {a : Aside} {l : Loop A} → Keeps a l → IsLoop 
 loop_holds h = record { in_mode = h.in_mode; run = h.run; stack = h.stack; refused = h.refused }
 
 track_holds : (reach frame : ℕ) (t : Track) → KeepsTrack reach frame t → IsTrack frame t
-track_holds reach frame t h = record { loop = loop_holds h.loop; strip = strip_valid reach frame t h; gain = h.gain; press = h.press; asker = sym h.loop.pinned }
+track_holds reach frame t h =
+    record { loop = loop_holds h.loop; strip = strip_valid reach frame t h; gain = h.gain; press = h.press; asker = sym h.loop.pinned }
 
 tracks_hold : (reach frame : ℕ) (ts : List Track) → AllByRecursion (KeepsTrack reach frame) ts → AllByRecursion (IsTrack frame) ts
 tracks_hold reach frame [] h = tt
 tracks_hold reach frame (t ∷ ts) h = (track_holds reach frame t h.0, tracks_hold reach frame ts h.1)
 
 pub looper_holds : {frame : ℕ} {l : Looper} → KeepsLooper frame l → IsLooper frame l
-looper_holds {frame = frame} {l = l} h = record { tracks = tracks_hold l.chunks frame l.tracks h.tracks; count = h.count; globals = h.globals; dry = h.dry; chunks = h.used_chunks }
+looper_holds {frame = frame} {l = l} h =
+    record { tracks = tracks_hold l.chunks frame l.tracks h.tracks; count = h.count; globals = h.globals; dry = h.dry; chunks = h.used_chunks }
 
 -- after some frames of a run
-begun_from_start : (settings : LooperSettings) (chunks : ℕ) (lists : List (List Sound)) → IsBeginning settings chunks lists → (es : List Entry) (xs : List Sound) → KeepsLooper (length xs) (begun 0 es xs (start settings chunks lists)).looper
+begun_from_start :
+    (settings : LooperSettings) (chunks : ℕ) (lists : List (List Sound)) → IsBeginning settings chunks lists →
+    (es : List Entry) (xs : List Sound) → KeepsLooper (length xs) (begun 0 es xs (start settings chunks lists)).looper
 begun_from_start settings chunks lists h es xs =
     let same : 0 + length xs ≡ length xs = omega arith
     in subst (λ frame. KeepsLooper frame (begun 0 es xs (start settings chunks lists)).looper) same (begun_keeps 0 es xs (start settings chunks lists) (start_keeps settings chunks lists h))
 
-pub runs_begun : (settings : LooperSettings) (chunks : ℕ) (lists : List (List Sound)) → IsBeginning settings chunks lists → (es : List Entry) (xs : List Sound) → IsLooper (length xs) (begun 0 es xs (start settings chunks lists)).looper
+pub runs_begun :
+    (settings : LooperSettings) (chunks : ℕ) (lists : List (List Sound)) → IsBeginning settings chunks lists →
+    (es : List Entry) (xs : List Sound) → IsLooper (length xs) (begun 0 es xs (start settings chunks lists)).looper
 runs_begun settings chunks lists h es xs = looper_holds (begun_from_start settings chunks lists h es xs)
 
 -- and after some entries behind them
-pub runs_entered : (settings : LooperSettings) (chunks : ℕ) (lists : List (List Sound)) → IsBeginning settings chunks lists → (es more : List Entry) (xs : List Sound) → IsLooper (length xs) (entered (length xs) more (begun 0 es xs (start settings chunks lists)).looper).looper
-runs_entered settings chunks lists h es more xs = looper_holds (entered_keeps (length xs) more (begun 0 es xs (start settings chunks lists)).looper (begun_from_start settings chunks lists h es xs))
+pub runs_entered :
+    (settings : LooperSettings) (chunks : ℕ) (lists : List (List Sound)) → IsBeginning settings chunks lists →
+    (es more : List Entry) (xs : List Sound) →
+    IsLooper (length xs) (entered (length xs) more (begun 0 es xs (start settings chunks lists)).looper).looper
+runs_entered settings chunks lists h es more xs =
+    looper_holds (entered_keeps (length xs) more (begun 0 es xs (start settings chunks lists)).looper (begun_from_start settings chunks lists h es xs))
 
 -- new loops may begin a run
 new_lists : (loops : ℕ) → AreLists (replicate loops default_strip) []
@@ -249,4 +275,5 @@ new_lists zero = tt
 new_lists (suc n) = (refl, new_lists n)
 
 pub new_begins : (rate loops chunks : ℕ) → is_rate rate ≡ true → is_loop_count loops ≡ true → IsBeginning (default_settings rate loops) chunks []
-new_begins rate loops chunks rated counted = record { in_range = are_settings-default rate loops rated counted; lengths = new_lists loops; fits = omega arith }
+new_begins rate loops chunks rated counted =
+    record { in_range = are_settings-default rate loops rated counted; lengths = new_lists loops; fits = omega arith }

@@ -20,7 +20,9 @@ use Rattle.looper_rules.proofs.KeptPresses.{waiting_acts_keeps}
 use Rattle.looper_rules.proofs.KeptLoopFrame.{framed_keeps}
 
 -- a loop keeps what it has, whatever was left aside, with its own controls and press and another reach
-pub own : {A : Type 0} {a : Aside} {l : Loop A} (reach : ℕ) → Keeps a l → chunks_of l.stack.tape ≤ reach → Keeps (record { reach = reach; pinned = a.pinned; controls = l.controls; press = l.deck.press }) l
+pub own :
+    {A : Type 0} {a : Aside} {l : Loop A} (reach : ℕ) → Keeps a l → chunks_of l.stack.tape ≤ reach →
+    Keeps (record { reach = reach; pinned = a.pinned; controls = l.controls; press = l.deck.press }) l
 own reach h within =
     record {
       in_mode = h.in_mode;
@@ -40,7 +42,9 @@ pub reaching : {reach frame : ℕ} {t : Track} (other : ℕ) → KeepsTrack reac
 reaching other h within = record { loop = own other h.loop within; controls = h.controls; gain = h.gain; press = h.press }
 
 -- a track whose loop keeps what was left aside
-pub track_keeps : {reach frame : ℕ} {t : Track} {l : Loop Sound} (gain : ℕ) → KeepsTrack reach frame t → gain ≤ 1000 → Keeps (aside_of reach t) l → KeepsTrack reach frame (record t { loop = l; gain = gain })
+pub track_keeps :
+    {reach frame : ℕ} {t : Track} {l : Loop Sound} (gain : ℕ) → KeepsTrack reach frame t → gain ≤ 1000 →
+    Keeps (aside_of reach t) l → KeepsTrack reach frame (record t { loop = l; gain = gain })
 track_keeps {reach = reach} {frame = frame} gain h within k =
     record {
       loop = own reach k k.reach;
@@ -122,7 +126,8 @@ mapped_keeps act chunks frame (t ∷ ts) keeps same h =
 
 -- a gain stays within 1000 on its way
 pub gain_within : (gain target step : ℕ) → gain ≤ 1000 → target ≤ 1000 → gain_after gain target step ≤ 1000
-gain_within gain target step from to = cond_both (nat_le gain target) (min target (gain + step)) (max target (gain - step)) (λ g. g ≤ 1000) (λ up. omega arith) (λ down. omega arith)
+gain_within gain target step from to =
+    cond_both (nat_le gain target) (min target (gain + step)) (max target (gain - step)) (λ g. g ≤ 1000) (λ up. omega arith) (λ down. omega arith)
 
 -- wet is at most 1000
 pub wet_within : (c : Controls) → AreControls c → c.wet ≤ 1000
@@ -130,11 +135,13 @@ wet_within c h = leb-true c.wet 1000 (and_parts (nat_le 0 c.wet) (nat_le c.wet 1
 
 -- a frame of a track
 pub played_keeps : (frame step : ℕ) (x : Sound) → KeepsTracks frame (λ reach t. played_on (played step x reach t))
-played_keeps frame step x reach t h = track_keeps (gain_after t.gain t.loop.controls.wet step) h (gain_within t.gain t.loop.controls.wet step h.gain (wet_within t.loop.controls h.controls)) (framed_keeps x h.loop)
+played_keeps frame step x reach t h =
+    track_keeps (gain_after t.gain t.loop.controls.wet step) h (gain_within t.gain t.loop.controls.wet step h.gain (wet_within t.loop.controls h.controls)) (framed_keeps x h.loop)
 
 -- the boundary of a frame
 pub at_boundary_keeps : (g : Globals) (frame : ℕ) (faces : List Face) → KeepsLoops (at_boundary g frame faces)
-at_boundary_keeps g frame faces a l h = cond_both (is_boundary g.sync_source l.controls.quantize g.pulse frame faces) (waiting_acts a.reach l) l (λ r. Keeps a r) (λ now. waiting_acts_keeps a.reach h) (λ later. h)
+at_boundary_keeps g frame faces a l h =
+    cond_both (is_boundary g.sync_source l.controls.quantize g.pulse frame faces) (waiting_acts a.reach l) l (λ r. Keeps a r) (λ now. waiting_acts_keeps a.reach h) (λ later. h)
 
 -- a press that isn't later than one frame isn't later than the next
 press_before_next : (frame : ℕ) (press : Option Held) → IsPressBefore frame press → IsPressBefore (frame + 1) press
@@ -142,6 +149,9 @@ press_before_next frame None h = tt
 press_before_next frame (Some p) h = omega arith
 
 -- when one frame more is done
-pub one_frame_more : (chunks frame : ℕ) (ts : List Track) → AllByRecursion (KeepsTrack chunks frame) ts → AllByRecursion (KeepsTrack chunks (frame + 1)) ts
+pub one_frame_more :
+    (chunks frame : ℕ) (ts : List Track) → AllByRecursion (KeepsTrack chunks frame) ts →
+    AllByRecursion (KeepsTrack chunks (frame + 1)) ts
 one_frame_more chunks frame [] h = tt
-one_frame_more chunks frame (t ∷ ts) h = (record { loop = h.0.loop; controls = h.0.controls; gain = h.0.gain; press = press_before_next frame t.loop.deck.press h.0.press }, one_frame_more chunks frame ts h.1)
+one_frame_more chunks frame (t ∷ ts) h =
+    (record { loop = h.0.loop; controls = h.0.controls; gain = h.0.gain; press = press_before_next frame t.loop.deck.press h.0.press }, one_frame_more chunks frame ts h.1)

@@ -36,13 +36,17 @@ abbrev pub KeepsAtRest : {A : Type 0} → Aside → Bool → (Loop A → Loop A)
 KeepsAtRest {A = A} a backward act = (l : Loop A) → IsResting l.deck.mode → l.deck.backward ≡ backward → Keeps a l → Keeps a (act l)
 
 -- what is done unless closing has made the mode Off
-unless_off_keeps : {A : Type 0} {a : Aside} {l : Loop A} (mode : Mode) (act : Loop A → Loop A) → IsClosedMode mode → (IsResting mode → Keeps a (act l)) → Keeps a l → Keeps a (unless_off mode act l)
+unless_off_keeps :
+    {A : Type 0} {a : Aside} {l : Loop A} (mode : Mode) (act : Loop A → Loop A) → IsClosedMode mode →
+    (IsResting mode → Keeps a (act l)) → Keeps a l → Keeps a (unless_off mode act l)
 unless_off_keeps Off act leads more h = h
 unless_off_keeps Playing act leads more h = more tt
 unless_off_keeps _ act leads more h = absurd leads
 
 -- closing, and then something
-closes_then_keeps : {A : Type 0} {a : Aside} {l : Loop A} (act : Loop A → Loop A) → KeepsAtRest a l.deck.backward act → is_writing l.deck.mode ≡ true → Keeps a l → Keeps a (closes_then act l)
+closes_then_keeps :
+    {A : Type 0} {a : Aside} {l : Loop A} (act : Loop A → Loop A) → KeepsAtRest a l.deck.backward act →
+    is_writing l.deck.mode ≡ true → Keeps a l → Keeps a (closes_then act l)
 closes_then_keeps {l = l} act more writing h =
     let now : Keeps _ (closed l) = closed_keeps writing h
     in unless_off_keeps (closed l).deck.mode act (closed_leads l) (λ rests. more (closed l) rests (closed_direction l.deck.mode l) now) now
@@ -63,7 +67,9 @@ starts_record_keeps {a = a} {l = l} reach quiet h =
     (λ now. records_keeps reach h (closed_layers l.deck.mode l.stack.layers l.stack.redo l.deck.pos l.deck.backward quiet h.in_mode))
 
 -- starting another writing verb
-starts_at_rest : {A : Type 0} {a : Aside} (reach : ℕ) (mode : Mode) (backward : Bool) → IsLayering mode backward → KeepsAtRest {A = A} a backward (starts mode reach)
+starts_at_rest :
+    {A : Type 0} {a : Aside} (reach : ℕ) (mode : Mode) (backward : Bool) → IsLayering mode backward →
+    KeepsAtRest {A = A} a backward (starts mode reach)
 starts_at_rest reach mode backward way l rests same h =
     starts_keeps reach mode (subst (λ b. IsLayering mode b) (sym same) way) h (playable l.deck.mode l.stack.layers l.stack.redo l.deck.pos l.deck.backward rests h.in_mode).0
 
@@ -76,8 +82,11 @@ start_inside : (backward : Bool) (pos len : ℕ) → pos < len → start_place b
 start_inside true pos len inside = omega arith
 start_inside false pos len inside = omega arith
 
-plays_from_start_keeps : {A : Type 0} {a : Aside} {l : Loop A} (mode : Mode) → IsResting mode → IsResting l.deck.mode → Keeps a l → Keeps a (plays_from_start mode l)
-plays_from_start_keeps {l = l} mode now rests h = rests_again mode (start_place l.deck.backward (length_of l)) l.deck.backward rests now (start_inside l.deck.backward l.deck.pos (length_of l) (resting_inside rests h)) h
+plays_from_start_keeps :
+    {A : Type 0} {a : Aside} {l : Loop A} (mode : Mode) → IsResting mode → IsResting l.deck.mode → Keeps a l →
+    Keeps a (plays_from_start mode l)
+plays_from_start_keeps {l = l} mode now rests h =
+    rests_again mode (start_place l.deck.backward (length_of l)) l.deck.backward rests now (start_inside l.deck.backward l.deck.pos (length_of l) (resting_inside rests h)) h
 
 turned_keeps : {A : Type 0} {a : Aside} {l : Loop A} → IsResting l.deck.mode → Keeps a l → Keeps a (turned l)
 turned_keeps {l = l} rests h = rests_again l.deck.mode l.deck.pos (not l.deck.backward) rests rests (resting_inside rests h) h
@@ -103,17 +112,23 @@ StandsIn InAnother mode = is_writing mode ≡ true
 StandsIn Elsewhere mode = IsResting mode
 
 -- the row of `record`
-record_keeps : {A : Type 0} {a : Aside} {l : Loop A} (place : Column) (reach : ℕ) → StandsIn place l.deck.mode → Keeps a l → Keeps a (record_row place reach l)
+record_keeps :
+    {A : Type 0} {a : Aside} {l : Loop A} (place : Column) (reach : ℕ) → StandsIn place l.deck.mode → Keeps a l →
+    Keeps a (record_row place reach l)
 record_keeps InOff reach stands h = starts_record_keeps reach stands h
 record_keeps InItsOwn reach stands h = closed_keeps stands h
 record_keeps {l = l} InAnother reach stands h = starts_record_keeps reach (closed_is_quiet _ (closed_leads l)) (closed_keeps stands h)
 record_keeps {l = l} Elsewhere reach stands h = starts_record_keeps reach (resting_is_quiet l.deck.mode stands) h
 
 -- the row of `overdub`, `replace` and `substitute`
-layer_keeps : {A : Type 0} {a : Aside} {l : Loop A} (place : Column) (mode : Mode) (reach : ℕ) → ((backward : Bool) → IsLayering mode backward) → StandsIn place l.deck.mode → Keeps a l → Keeps a (layer_row place mode reach l)
+layer_keeps :
+    {A : Type 0} {a : Aside} {l : Loop A} (place : Column) (mode : Mode) (reach : ℕ) →
+    ((backward : Bool) → IsLayering mode backward) → StandsIn place l.deck.mode → Keeps a l →
+    Keeps a (layer_row place mode reach l)
 layer_keeps InOff mode reach way stands h = h
 layer_keeps InItsOwn mode reach way stands h = closed_keeps stands h
-layer_keeps {l = l} InAnother mode reach way stands h = closes_then_keeps (starts mode reach) (starts_at_rest reach mode l.deck.backward (way l.deck.backward)) stands h
+layer_keeps {l = l} InAnother mode reach way stands h =
+    closes_then_keeps (starts mode reach) (starts_at_rest reach mode l.deck.backward (way l.deck.backward)) stands h
 layer_keeps {l = l} Elsewhere mode reach way stands h = starts_at_rest reach mode l.deck.backward (way l.deck.backward) l stands refl h
 
 -- a multiply or an insert that ends
@@ -124,7 +139,10 @@ ends_keeps {a = a} {l = l} writing h =
     (λ later. with_deck (record l.deck { rounding = true }) l.stack.run h h.in_mode h.run refl)
 
 -- the row of `multiply` and `insert`
-length_keeps : {A : Type 0} {a : Aside} {l : Loop A} (place : Column) (mode : Mode) (reach : ℕ) → ((backward : Bool) → backward ≡ false → IsLayering mode backward) → StandsIn place l.deck.mode → Keeps a l → Keeps a (length_row place mode reach l)
+length_keeps :
+    {A : Type 0} {a : Aside} {l : Loop A} (place : Column) (mode : Mode) (reach : ℕ) →
+    ((backward : Bool) → backward ≡ false → IsLayering mode backward) → StandsIn place l.deck.mode → Keeps a l →
+    Keeps a (length_row place mode reach l)
 length_keeps InOff mode reach way stands h = h
 length_keeps InItsOwn mode reach way stands h = ends_keeps stands h
 length_keeps {a = a} {l = l} InAnother mode reach way stands h =
@@ -165,10 +183,14 @@ pause_keeps InAnother stands h = closes_then_keeps (in_mode Paused) (λ now rest
 pause_keeps {l = l} Elsewhere stands h = in_mode_at_rest (pause_toggled l.deck.mode) (pause_rests l.deck.mode) stands h
 
 -- the row of `oneshot` and `trigger`
-start_keeps : {A : Type 0} {a : Aside} {l : Loop A} (place : Column) (mode : Mode) → IsResting mode → StandsIn place l.deck.mode → Keeps a l → Keeps a (start_row place mode l)
+start_keeps :
+    {A : Type 0} {a : Aside} {l : Loop A} (place : Column) (mode : Mode) → IsResting mode → StandsIn place l.deck.mode →
+    Keeps a l → Keeps a (start_row place mode l)
 start_keeps InOff mode now stands h = h
-start_keeps InItsOwn mode now stands h = closes_then_keeps (plays_from_start mode) (λ l rests same k. plays_from_start_keeps mode now rests k) stands h
-start_keeps InAnother mode now stands h = closes_then_keeps (plays_from_start mode) (λ l rests same k. plays_from_start_keeps mode now rests k) stands h
+start_keeps InItsOwn mode now stands h =
+    closes_then_keeps (plays_from_start mode) (λ l rests same k. plays_from_start_keeps mode now rests k) stands h
+start_keeps InAnother mode now stands h =
+    closes_then_keeps (plays_from_start mode) (λ l rests same k. plays_from_start_keeps mode now rests k) stands h
 start_keeps Elsewhere mode now stands h = plays_from_start_keeps mode now stands h
 
 -- the loop in this mode
@@ -176,7 +198,9 @@ abbrev pub set_to : {A : Type 0} → Mode → Loop A → Loop A
 set_to mode l = record l { deck = record l.deck { mode = mode } }
 
 -- a reverse in a writing mode
-reversed_keeps : {A : Type 0} {a : Aside} (l : Loop A) (mode : Mode) → is_writing mode ≡ true → Keeps a (set_to mode l) → Keeps a (reversed_in mode (set_to mode l))
+reversed_keeps :
+    {A : Type 0} {a : Aside} (l : Loop A) (mode : Mode) → is_writing mode ≡ true → Keeps a (set_to mode l) →
+    Keeps a (reversed_in mode (set_to mode l))
 reversed_keeps l Recording writing h = closes_then_keeps turned (λ now rests same k. turned_keeps rests k) writing h
 reversed_keeps l Multiplying writing h = closes_then_keeps turned (λ now rests same k. turned_keeps rests k) writing h
 reversed_keeps l Inserting writing h = closes_then_keeps turned (λ now rests same k. turned_keeps rests k) writing h
@@ -193,7 +217,9 @@ reverse_keeps {l = l} InAnother stands h = reversed_keeps l l.deck.mode stands h
 reverse_keeps Elsewhere stands h = turned_keeps stands h
 
 -- the table
-row_keeps : {A : Type 0} {a : Aside} {l : Loop A} (verb : Verb) (place : Column) (reach : ℕ) → StandsIn place l.deck.mode → Keeps a l → Keeps a (row verb place reach l)
+row_keeps :
+    {A : Type 0} {a : Aside} {l : Loop A} (verb : Verb) (place : Column) (reach : ℕ) → StandsIn place l.deck.mode → Keeps a l →
+    Keeps a (row verb place reach l)
 row_keeps Rec place reach stands h = record_keeps place reach stands h
 row_keeps Overdub place reach stands h = layer_keeps place Overdubbing reach (λ backward. tt) stands h
 row_keeps Multiply place reach stands h = length_keeps place Multiplying reach (λ backward forward. forward) stands h
@@ -235,11 +261,15 @@ stands_in verb Substituting awake = writing_column (is_mode_of verb Substituting
 stands_in verb _ awake = tt
 
 -- a verb in another mode than WaitStart
-acts_in_keeps : {A : Type 0} {a : Aside} {l : Loop A} (verb : Verb) (reach : ℕ) → IsAwake l.deck.mode → Keeps a l → Keeps a (acts_in verb l.deck.mode reach l)
+acts_in_keeps :
+    {A : Type 0} {a : Aside} {l : Loop A} (verb : Verb) (reach : ℕ) → IsAwake l.deck.mode → Keeps a l →
+    Keeps a (acts_in verb l.deck.mode reach l)
 acts_in_keeps {l = l} verb reach awake h = row_keeps verb (column verb l.deck.mode) reach (stands_in verb l.deck.mode awake) h
 
 -- leaving WaitStart
-left_wait : {A : Type 0} (layers redo : List (Layer A)) (pos : ℕ) (backward : Bool) → AreWaiting layers pos × AreClosed redo → InMode (mode_after_wait layers) layers redo pos backward
+left_wait :
+    {A : Type 0} (layers redo : List (Layer A)) (pos : ℕ) (backward : Bool) → AreWaiting layers pos × AreClosed redo →
+    InMode (mode_after_wait layers) layers redo pos backward
 left_wait [] redo pos backward h = (refl, h.1)
 left_wait (l ∷ ls) redo pos backward h = h
 
@@ -259,12 +289,16 @@ leaves_wait_keeps l h =
     refl
 
 -- a verb behind WaitStart
-acts_waiting_keeps : {A : Type 0} {a : Aside} (l : Loop A) (verb : Verb) (reach : ℕ) → Keeps a (set_to WaitStart l) → Keeps a (acts_waiting verb reach (set_to WaitStart l))
+acts_waiting_keeps :
+    {A : Type 0} {a : Aside} (l : Loop A) (verb : Verb) (reach : ℕ) → Keeps a (set_to WaitStart l) →
+    Keeps a (acts_waiting verb reach (set_to WaitStart l))
 acts_waiting_keeps l Rec reach h = leaves_wait_keeps l h
 acts_waiting_keeps l verb reach h = acts_in_keeps verb reach (left_wait_is_awake l.stack.layers) (leaves_wait_keeps l h)
 
 -- a verb in this mode
-acts_from_keeps : {A : Type 0} {a : Aside} (l : Loop A) (verb : Verb) (mode : Mode) (reach : ℕ) → Keeps a (set_to mode l) → Keeps a (acts verb reach (set_to mode l))
+acts_from_keeps :
+    {A : Type 0} {a : Aside} (l : Loop A) (verb : Verb) (mode : Mode) (reach : ℕ) → Keeps a (set_to mode l) →
+    Keeps a (acts verb reach (set_to mode l))
 acts_from_keeps l verb WaitStart reach h = acts_waiting_keeps l verb reach h
 acts_from_keeps l verb mode reach h = acts_in_keeps verb reach tt h
 

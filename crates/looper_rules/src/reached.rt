@@ -27,8 +27,11 @@ pub fn a_kept_loop_is_a_loop()
 
 /// A loop keeps it where a layer is opened over closed ones.
 pub fn an_opening_keeps_the_loop()
-    ensures recorded { (a : Aside) (l : Loop Sound) → Keeps a l → AreClosed l.stack.layers → Keeps a (records (opening a.reach true l.stack) l) }
-    ensures copied { (a : Aside) (mode : Mode) (l : Loop Sound) → Keeps a l → ArePlayable l.stack.layers l.deck.pos → IsLayering mode l.deck.backward → Keeps a (starts mode a.reach l) }
+    ensures recorded { (a : Aside) (l : Loop Sound) → Keeps a l → AreClosed l.stack.layers →
+        Keeps a (records (opening a.reach true l.stack) l) }
+    ensures copied { (a : Aside) (mode : Mode) (l : Loop Sound) → Keeps a l →
+        ArePlayable l.stack.layers l.deck.pos → IsLayering mode l.deck.backward →
+        Keeps a (starts mode a.reach l) }
 {}
 
 /// It keeps it where its open layer is closed.
@@ -60,18 +63,27 @@ pub fn an_entry_keeps_the_looper()
 
 /// A frame keeps it, with its boundaries, and then one frame more is done.
 pub fn a_frame_keeps_the_looper()
-    ensures { (done frame : ℕ) (x : Sound) (l : Looper) → KeepsLooper done l → KeepsLooper (done + 1) (framed frame x l).looper }
+    ensures { (done frame : ℕ) (x : Sound) (l : Looper) → KeepsLooper done l →
+        KeepsLooper (done + 1) (framed frame x l).looper }
 {}
 
-/// New loops may begin a run, and so may loops with lists that fit.
+/// A run begins with it, and new loops may begin a run.
 pub fn a_run_begins_with_a_looper()
-    ensures kept { (settings : LooperSettings) (chunks : ℕ) (lists : List (List Sound)) → IsBeginning settings chunks lists → KeepsLooper 0 (start settings chunks lists) }
-    ensures empty { (rate loops chunks : ℕ) → IsTrue (is_rate rate) → IsTrue (is_loop_count loops) → IsBeginning (default_settings rate loops) chunks [] }
+    ensures kept { (s : LooperSettings) (chunks : ℕ) (lists : List (List Sound)) → IsBeginning s chunks lists →
+        KeepsLooper 0 (start s chunks lists) }
+    ensures empty { (rate loops chunks : ℕ) → IsTrue (is_rate rate) → IsTrue (is_loop_count loops) →
+        IsBeginning (default_settings rate loops) chunks [] }
 {}
 
 /// Each state of a run is a looper: after any frames, after any entries behind them, and at the end.
 pub fn each_state_of_a_run_is_a_looper()
-    ensures frames { (s : LooperSettings) (chunks : ℕ) (lists : List (List Sound)) (es : List Entry) (xs : List Sound) → IsBeginning s chunks lists → IsLooper (length xs) (begun 0 es xs (start s chunks lists)).looper }
-    ensures entries { (s : LooperSettings) (chunks : ℕ) (lists : List (List Sound)) (es more : List Entry) (xs : List Sound) → IsBeginning s chunks lists → IsLooper (length xs) (entered (length xs) more (begun 0 es xs (start s chunks lists)).looper).looper }
-    ensures end { (s : LooperSettings) (chunks : ℕ) (lists : List (List Sound)) (es : List Entry) (xs : List Sound) → IsBeginning s chunks lists → IsLooper (length xs) (run es xs (start s chunks lists)).looper }
+    ensures frames { (s : LooperSettings) (chunks : ℕ) (lists : List (List Sound)) (es : List Entry) (xs : List Sound) →
+        IsBeginning s chunks lists →
+        IsLooper (length xs) (begun 0 es xs (start s chunks lists)).looper }
+    ensures entries { (s : LooperSettings) (chunks : ℕ) (lists : List (List Sound)) (es more : List Entry) (xs : List Sound) →
+        IsBeginning s chunks lists →
+        IsLooper (length xs) (entered (length xs) more (begun 0 es xs (start s chunks lists)).looper).looper }
+    ensures end { (s : LooperSettings) (chunks : ℕ) (lists : List (List Sound)) (es : List Entry) (xs : List Sound) →
+        IsBeginning s chunks lists →
+        IsLooper (length xs) (run es xs (start s chunks lists)).looper }
 {}
