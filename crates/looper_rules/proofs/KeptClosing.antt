@@ -12,7 +12,7 @@ use Rattle.looper_rules.specs.Layers.{Cell, Layer, unmarked, total_seams, with_c
 use Rattle.looper_rules.specs.Loop.{Loop, is_writing, length_of, base_length_of}
 use Rattle.looper_rules.specs.Closing.{closing_cycle, closed_layer, finished_layer, finished, dropped, closes_as, closed_recording, multiply_cut, closed_from, closed}
 use Rattle.looper_rules.specs.States.{IsClosed, IsRecorded, IsOpenOver, AreClosed, HasCurrent, ArePlayable, InMode, AreWithin}
-use Rattle.looper_rules.specs.Reached.{AreOrdered, GoOnFrom, Aside, Keeps}
+use Rattle.looper_rules.specs.Reached.{AreOrdered, GoOnFrom, Unchanged, Keeps}
 use Rattle.looper_rules.proofs.KeptDecks.{no_run}
 use Rattle.looper_rules.proofs.KeptLayers.{length-unmarked, unmarked-unmarked, total_seams-cons, length-with_current}
 
@@ -116,7 +116,7 @@ dropped_order (l ∷ ls) order = order.1
 
 -- a loop that closes with these layers, in this mode and at this place
 closes_with :
-    {A : Type 0} {a : Aside} {l : Loop A} (mode : Mode) (pos : ℕ) (layers : List (Layer A)) → Keeps a l →
+    {A : Type 0} {a : Unchanged} {l : Loop A} (mode : Mode) (pos : ℕ) (layers : List (Layer A)) → Keeps a l →
     InMode mode layers l.stack.redo pos l.deck.backward →
     AreWithin l.stack.tape layers → length layers ≤ length l.stack.layers → total_seams layers ≤ total_seams l.stack.layers → AreOrdered layers → l.stack.redo ≡ [] →
     Keeps a (closes_as mode pos (record l.stack { layers = layers; run = None }) l)
@@ -142,7 +142,7 @@ closes_with {l = l} mode pos layers h in_mode within count seams order no_redo =
 
 -- a loop that closes a layer and keeps it
 finishes :
-    {A : Type 0} {a : Aside} {l : Loop A} (cut : Option ℕ) (pos : ℕ) → Keeps a l → l.stack.redo ≡ [] →
+    {A : Type 0} {a : Unchanged} {l : Loop A} (cut : Option ℕ) (pos : ℕ) → Keeps a l → l.stack.redo ≡ [] →
     ArePlayable (with_current (finished_layer cut l.stack.tape) l.stack.layers) pos → Keeps a (closes_as Playing pos (finished cut l.stack) l)
 finishes {l = l} cut pos h no_redo playable =
     closes_with Playing pos (with_current (finished_layer cut l.stack.tape) l.stack.layers) h
@@ -155,7 +155,7 @@ finishes {l = l} cut pos h no_redo playable =
 
 -- a loop that removes its layer
 drops :
-    {A : Type 0} {a : Aside} {l : Loop A} (mode : Mode) → Keeps a l → l.stack.redo ≡ [] →
+    {A : Type 0} {a : Unchanged} {l : Loop A} (mode : Mode) → Keeps a l → l.stack.redo ≡ [] →
     InMode mode (without_current l.stack.layers) l.stack.redo 0 l.deck.backward → Keeps a (closes_as mode 0 (dropped l.stack) l)
 drops {l = l} mode h no_redo in_mode =
     closes_with mode 0 (without_current l.stack.layers) h in_mode
@@ -204,7 +204,7 @@ multiplied_playable tape pos (l ∷ ls) has inside =
 
 -- a Recording closed
 recording_closes :
-    {A : Type 0} {a : Aside} {l : Loop A} (empty single : Bool) → (length_of l == 0) ≡ empty →
+    {A : Type 0} {a : Unchanged} {l : Loop A} (empty single : Bool) → (length_of l == 0) ≡ empty →
     nat_le (length l.stack.layers) 1 ≡ single → Keeps a l →
     InMode Recording l.stack.layers l.stack.redo l.deck.pos l.deck.backward → Keeps a (closed_recording empty single l)
 recording_closes {l = l} true true nothing only h now = drops Off h now.1 (none_left l.stack.layers only, subst (λ redo. AreClosed redo) (sym now.1) tt)
@@ -213,7 +213,7 @@ recording_closes {l = l} false single some several h now = finishes None 0 h now
 
 -- a loop in this writing mode closed
 closed_from_keeps :
-    {A : Type 0} {a : Aside} {l : Loop A} (mode : Mode) → is_writing mode ≡ true → Keeps a l →
+    {A : Type 0} {a : Unchanged} {l : Loop A} (mode : Mode) → is_writing mode ≡ true → Keeps a l →
     InMode mode l.stack.layers l.stack.redo l.deck.pos l.deck.backward → Keeps a (closed_from mode l)
 closed_from_keeps {l = l} Recording writing h now = recording_closes (length_of l == 0) (nat_le (length l.stack.layers) 1) refl refl h now
 closed_from_keeps {l = l} Multiplying writing h now =
@@ -228,7 +228,7 @@ closed_from_keeps {l = l} Inserting writing h now =
     finishes None l.deck.pos h now.0.1 (open_playable l.stack.tape l.deck.pos l.stack.layers now.0.0 now.0.2)
 closed_from_keeps _ writing h now = absurd (let no : ⊥ = Prim.cc in no)
 
-pub closed_keeps : {A : Type 0} {a : Aside} {l : Loop A} → is_writing l.deck.mode ≡ true → Keeps a l → Keeps a (closed l)
+pub closed_keeps : {A : Type 0} {a : Unchanged} {l : Loop A} → is_writing l.deck.mode ≡ true → Keeps a l → Keeps a (closed l)
 closed_keeps {l = l} writing h = closed_from_keeps l.deck.mode writing h h.in_mode
 
 -- a mode to which closing leads

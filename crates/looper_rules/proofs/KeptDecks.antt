@@ -6,7 +6,7 @@ use Rattle.looper_rules.specs.Limits.{max_value}
 use Rattle.looper_rules.specs.Stack.{Stack, LastWrite}
 use Rattle.looper_rules.specs.Loop.{Deck, Loop, refused_once}
 use Rattle.looper_rules.specs.States.{InMode, IsRun, IsStack}
-use Rattle.looper_rules.specs.Reached.{Aside, Keeps}
+use Rattle.looper_rules.specs.Reached.{Unchanged, Keeps}
 
 -- the limits of a stack say nothing of its run
 pub stack_in_run : {A : Type 0} {s : Stack A} (run : Option LastWrite) → IsStack s → IsStack (record s { run = run })
@@ -15,7 +15,7 @@ stack_in_run run h =
 
 -- another deck and another run
 pub with_deck :
-    {A : Type 0} {a : Aside} {l : Loop A} (d : Deck) (run : Option LastWrite) → Keeps a l →
+    {A : Type 0} {a : Unchanged} {l : Loop A} (d : Deck) (run : Option LastWrite) → Keeps a l →
     InMode d.mode l.stack.layers l.stack.redo d.pos d.backward →
     IsRun d.mode run d.pos d.backward → d.press ≡ l.deck.press →
     Keeps a (record l { deck = d; stack = record l.stack { run = run } })
@@ -34,7 +34,7 @@ with_deck d run h in_mode goes press =
     }
 
 -- one refusal more
-pub refused_keeps : {A : Type 0} {a : Aside} {l : Loop A} → Keeps a l → Keeps a (refused_once l)
+pub refused_keeps : {A : Type 0} {a : Unchanged} {l : Loop A} → Keeps a l → Keeps a (refused_once l)
 refused_keeps {l = l} h =
     record {
       in_mode = h.in_mode;

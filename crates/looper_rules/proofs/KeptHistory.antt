@@ -7,7 +7,7 @@ use Rattle.looper_rules.specs.Layers.{Layer}
 use Rattle.looper_rules.specs.Loop.{Loop, is_writing, is_off}
 use Rattle.looper_rules.specs.History.{closed_if, settled, stepped_back, undo, redo, undo_each, undo_all, redo_each, redo_all}
 use Rattle.looper_rules.specs.States.{AreClosed, InMode, IsRun}
-use Rattle.looper_rules.specs.Reached.{Aside, Keeps}
+use Rattle.looper_rules.specs.Reached.{Unchanged, Keeps}
 use Rattle.looper_rules.proofs.KeptDecks.{with_deck}
 use Rattle.looper_rules.proofs.KeptLayers.{total_seams-cons}
 use Rattle.looper_rules.proofs.KeptClosing.{closed_keeps, closed_leads, IsClosedMode}
@@ -23,7 +23,7 @@ moved mode pos layers redo l = record l { deck = record l.deck { mode = mode; po
 
 -- a layer that moves from the layers to redo
 goes_back :
-    {A : Type 0} {a : Aside} (l : Loop A) (mode now : Mode) (pos : ℕ) (x : Layer A) (xs redo : List (Layer A)) → Keeps a (so mode (x ∷ xs) redo l) →
+    {A : Type 0} {a : Unchanged} (l : Loop A) (mode now : Mode) (pos : ℕ) (x : Layer A) (xs redo : List (Layer A)) → Keeps a (so mode (x ∷ xs) redo l) →
     InMode now xs (x ∷ redo) pos l.deck.backward → IsRun now l.stack.run pos l.deck.backward → Keeps a (moved now pos xs (x ∷ redo) l)
 goes_back l mode now pos x xs redo h in_mode run =
     record {
@@ -48,7 +48,7 @@ goes_back l mode now pos x xs redo h in_mode run =
 -- a layer that comes back from redo
 comes_back :
     {A :
-    Type 0} {a : Aside} (l : Loop A) (mode now : Mode) (pos : ℕ) (layers : List (Layer A)) (x : Layer A) (xs : List (Layer A)) → Keeps a (so mode layers (x ∷ xs) l) →
+    Type 0} {a : Unchanged} (l : Loop A) (mode now : Mode) (pos : ℕ) (layers : List (Layer A)) (x : Layer A) (xs : List (Layer A)) → Keeps a (so mode layers (x ∷ xs) l) →
     InMode now (x ∷ layers) xs pos l.deck.backward → IsRun now l.stack.run pos l.deck.backward → Keeps a (moved now pos (x ∷ layers) xs l)
 comes_back l mode now pos layers x xs h in_mode run =
     record {
@@ -79,7 +79,7 @@ on _ l ls redo pos backward h = refl
 
 -- a step back, outside the writing modes
 steps_back :
-    {A : Type 0} {a : Aside} (l : Loop A) (mode : Mode) (layers redo : List (Layer A)) → is_writing mode ≡ false →
+    {A : Type 0} {a : Unchanged} (l : Loop A) (mode : Mode) (layers redo : List (Layer A)) → is_writing mode ≡ false →
     Keeps a (so mode layers redo l) → Keeps a (stepped_back (so mode layers redo l))
 steps_back l mode [] redo quiet h =
     with_deck (record l.deck { mode = Off; pos = 0 }) l.stack.run h
@@ -106,13 +106,13 @@ closed_is_quiet _ leads = absurd leads
 
 -- a loop with no layer open
 settled_keeps :
-    {A : Type 0} {a : Aside} {l : Loop A} (writing : Bool) → is_writing l.deck.mode ≡ writing → Keeps a l →
+    {A : Type 0} {a : Unchanged} {l : Loop A} (writing : Bool) → is_writing l.deck.mode ≡ writing → Keeps a l →
     Keeps a (closed_if writing l) × (is_writing (closed_if writing l).deck.mode ≡ false)
 settled_keeps {l = l} true e h = (closed_keeps e h, closed_is_quiet _ (closed_leads l))
 settled_keeps {l = l} false e h = (h, e)
 
 -- undo
-pub undo_keeps : {A : Type 0} {a : Aside} {l : Loop A} → Keeps a l → Keeps a (undo l)
+pub undo_keeps : {A : Type 0} {a : Unchanged} {l : Loop A} → Keeps a l → Keeps a (undo l)
 undo_keeps {l = l} h =
     let now = settled_keeps (is_writing l.deck.mode) refl h
     in steps_back (settled l) (settled l).deck.mode (settled l).stack.layers (settled l).stack.redo now.1 now.0
@@ -131,7 +131,7 @@ no_redo _ layers x xs pos backward h = refl
 
 -- a layer that comes back in Off
 back_from_off :
-    {A : Type 0} {a : Aside} (l : Loop A) (layers : List (Layer A)) (x : Layer A) (xs : List (Layer A)) →
+    {A : Type 0} {a : Unchanged} (l : Loop A) (layers : List (Layer A)) (x : Layer A) (xs : List (Layer A)) →
     Keeps a (so Off layers (x ∷ xs) l) → Keeps a (moved Playing 0 (x ∷ layers) xs l)
 back_from_off l layers x xs h =
     comes_back l Off Playing 0 layers x xs h
@@ -140,7 +140,7 @@ back_from_off l layers x xs h =
 
 -- and in another mode
 back_elsewhere :
-    {A : Type 0} {a : Aside} (l : Loop A) (mode : Mode) (layers : List (Layer A)) (x : Layer A) (xs : List (Layer A)) →
+    {A : Type 0} {a : Unchanged} (l : Loop A) (mode : Mode) (layers : List (Layer A)) (x : Layer A) (xs : List (Layer A)) →
     is_off mode ≡ false → Keeps a (so mode layers (x ∷ xs) l) →
     Keeps a (moved mode (l.deck.pos % length x.cells) (x ∷ layers) xs l)
 back_elsewhere l mode layers x xs is_on h =
@@ -153,7 +153,7 @@ back_elsewhere l mode layers x xs is_on h =
 
 -- redo, by the mode and the redo layers
 redoes :
-    {A : Type 0} {a : Aside} (l : Loop A) (mode : Mode) (layers redo_layers : List (Layer A)) →
+    {A : Type 0} {a : Unchanged} (l : Loop A) (mode : Mode) (layers redo_layers : List (Layer A)) →
     Keeps a (so mode layers redo_layers l) → Keeps a (redo (so mode layers redo_layers l))
 redoes l mode layers [] h = h
 redoes l Off layers (x ∷ xs) h = back_from_off l layers x xs h
@@ -170,20 +170,20 @@ redoes l Substituting layers (x ∷ xs) h = back_elsewhere l Substituting layers
 redoes l Paused layers (x ∷ xs) h = back_elsewhere l Paused layers x xs refl h
 
 -- redo
-pub redo_keeps : {A : Type 0} {a : Aside} {l : Loop A} → Keeps a l → Keeps a (redo l)
+pub redo_keeps : {A : Type 0} {a : Unchanged} {l : Loop A} → Keeps a l → Keeps a (redo l)
 redo_keeps {l = l} h = redoes l l.deck.mode l.stack.layers l.stack.redo h
 
 -- as many undos and redos as one likes
-pub undo_each_keeps : {A : Type 0} {a : Aside} (l : Loop A) (ls : List (Layer A)) → Keeps a l → Keeps a (undo_each ls l)
+pub undo_each_keeps : {A : Type 0} {a : Unchanged} (l : Loop A) (ls : List (Layer A)) → Keeps a l → Keeps a (undo_each ls l)
 undo_each_keeps l [] h = h
 undo_each_keeps l (x ∷ xs) h = undo_each_keeps (undo l) xs (undo_keeps h)
 
-pub undo_all_keeps : {A : Type 0} {a : Aside} {l : Loop A} → Keeps a l → Keeps a (undo_all l)
+pub undo_all_keeps : {A : Type 0} {a : Unchanged} {l : Loop A} → Keeps a l → Keeps a (undo_all l)
 undo_all_keeps {l = l} h = undo_each_keeps l l.stack.layers h
 
-pub redo_each_keeps : {A : Type 0} {a : Aside} (l : Loop A) (ls : List (Layer A)) → Keeps a l → Keeps a (redo_each ls l)
+pub redo_each_keeps : {A : Type 0} {a : Unchanged} (l : Loop A) (ls : List (Layer A)) → Keeps a l → Keeps a (redo_each ls l)
 redo_each_keeps l [] h = h
 redo_each_keeps l (x ∷ xs) h = redo_each_keeps (redo l) xs (redo_keeps h)
 
-pub redo_all_keeps : {A : Type 0} {a : Aside} {l : Loop A} → Keeps a l → Keeps a (redo_all l)
+pub redo_all_keeps : {A : Type 0} {a : Unchanged} {l : Loop A} → Keeps a l → Keeps a (redo_all l)
 redo_all_keeps {l = l} h = redo_each_keeps l l.stack.redo h

@@ -18,7 +18,7 @@ use Rattle.looper_rules.specs.Closing.{closed, at_stop}
 use Rattle.looper_rules.specs.Starting.{records}
 use Rattle.looper_rules.specs.LoopFrame.{wakes_as, awake_in, awake, stopped, extends, ready_in, ready, sound_at, new_frame, how_in, fits, wraps, wrapped_place, next_place, wrapped_mode, goes_on, stops_if, advanced, overrun_in, writes, passes, after}
 use Rattle.looper_rules.specs.States.{IsRecorded, IsOpenOver, AreWritten, InMode, IsBehind, GoesOn, IsRun}
-use Rattle.looper_rules.specs.Reached.{Aside, Keeps}
+use Rattle.looper_rules.specs.Reached.{Unchanged, Keeps}
 use Rattle.looper_rules.proofs.KeptDecks.{with_deck, refused_keeps, no_run}
 use Rattle.looper_rules.proofs.KeptOpening.{opens_record}
 use Rattle.looper_rules.proofs.KeptClosing.{closed_keeps, closed_leads, IsClosedMode}
@@ -29,23 +29,23 @@ use Rattle.looper_rules.proofs.KeptWriting.{Writes, written_stack, written_layer
 
 -- a WaitStart that ends
 wakes_keeps :
-    {A : Type 0} {a : Aside} (l : Loop A) (answer : Started) → (answer ≡ Ok → Keeps a (records Ok (set_to WaitStart l))) →
+    {A : Type 0} {a : Unchanged} (l : Loop A) (answer : Started) → (answer ≡ Ok → Keeps a (records Ok (set_to WaitStart l))) →
     Keeps a (set_to WaitStart l) → Keeps a (wakes_as answer (set_to WaitStart l))
 wakes_keeps l Ok opens h = opens refl
 wakes_keeps l _ opens h = leaves_wait_keeps (refused_once l) (refused_keeps h)
 
 awake_keeps_in :
-    {A : Type 0} {a : Aside} (l : Loop A) (mode : Mode) (loud : Bool) (reach : ℕ) → Keeps a (set_to mode l) →
+    {A : Type 0} {a : Unchanged} (l : Loop A) (mode : Mode) (loud : Bool) (reach : ℕ) → Keeps a (set_to mode l) →
     Keeps a (awake_in mode loud reach (set_to mode l))
 awake_keeps_in l WaitStart true reach h =
     wakes_keeps l (opening reach true l.stack) (opens_record reach h (closed_layers WaitStart l.stack.layers l.stack.redo l.deck.pos l.deck.backward refl h.in_mode)) h
 awake_keeps_in l _ _ reach h = h
 
-pub awake_keeps : {A : Type 0} {a : Aside} {l : Loop A} (x : Sound) (reach : ℕ) → Keeps a l → Keeps a (awake x reach l)
+pub awake_keeps : {A : Type 0} {a : Unchanged} {l : Loop A} (x : Sound) (reach : ℕ) → Keeps a l → Keeps a (awake x reach l)
 awake_keeps {l = l} x reach h = awake_keeps_in l l.deck.mode (nat_le l.controls.rec_thresh (loudness x)) reach h
 
 -- a refusal counted, and the layer closed
-pub stopped_keeps : {A : Type 0} {a : Aside} {l : Loop A} → is_writing l.deck.mode ≡ true → Keeps a l → Keeps a (stopped l)
+pub stopped_keeps : {A : Type 0} {a : Unchanged} {l : Loop A} → is_writing l.deck.mode ≡ true → Keeps a l → Keeps a (stopped l)
 stopped_keeps writing h = closed_keeps writing (refused_keeps h)
 
 -- a closed layer is written no further
@@ -58,7 +58,7 @@ IsPlaced Multiplying pos len = pos < len
 IsPlaced _ pos len = ⊤
 
 -- a loop that is ready for its frame
-abbrev pub IsReady : {A : Type 0} → Aside → Loop A → Type 0
+abbrev pub IsReady : {A : Type 0} → Unchanged → Loop A → Type 0
 IsReady a l = Keeps a l × IsPlaced l.deck.mode l.deck.pos (length_of l)
 
 closed_is_placed : (mode : Mode) (pos len : ℕ) → IsClosedMode mode → IsPlaced mode pos len
@@ -68,21 +68,21 @@ closed_is_placed _ pos len leads = absurd leads
 
 -- a Multiplying with pos at the length
 extends_keeps :
-    {A : Type 0} {a : Aside} (l : Loop A) (fits : Bool) → extension_fits l.stack ≡ fits → Keeps a (set_to Multiplying l) →
+    {A : Type 0} {a : Unchanged} (l : Loop A) (fits : Bool) → extension_fits l.stack ≡ fits → Keeps a (set_to Multiplying l) →
     IsReady a (extends fits (set_to Multiplying l))
 extends_keeps l true e h = extended_keeps h h.in_mode refl e
 extends_keeps l false e h =
     (stopped_keeps refl h, closed_is_placed (stopped (set_to Multiplying l)).deck.mode (stopped (set_to Multiplying l)).deck.pos (length_of (stopped (set_to Multiplying l))) (closed_leads (refused_once (set_to Multiplying l))))
 
 ready_keeps_in :
-    {A : Type 0} {a : Aside} (l : Loop A) (mode : Mode) (full : Bool) → (l.deck.pos == length_of l) ≡ full →
+    {A : Type 0} {a : Unchanged} (l : Loop A) (mode : Mode) (full : Bool) → (l.deck.pos == length_of l) ≡ full →
     Keeps a (set_to mode l) → IsReady a (ready_in mode full (set_to mode l))
 ready_keeps_in l Multiplying true e h = extends_keeps l (extension_fits l.stack) refl h
 ready_keeps_in l Multiplying false e h =
     (h, (let other : l.deck.pos ≡ length_of l → ⊥ = eqb-false l.deck.pos (length_of l) e in let inside : l.deck.pos ≤ length_of l = h.in_mode.2 in omega arith))
 ready_keeps_in l _ _ e h = (h, tt)
 
-pub ready_keeps : {A : Type 0} {a : Aside} {l : Loop A} (x : Sound) (reach : ℕ) → Keeps a l → IsReady a (ready x reach l)
+pub ready_keeps : {A : Type 0} {a : Unchanged} {l : Loop A} (x : Sound) (reach : ℕ) → Keeps a l → IsReady a (ready x reach l)
 ready_keeps {l = l} x reach h =
     ready_keeps_in (awake x reach l) (awake x reach l).deck.mode ((awake x reach l).deck.pos == length_of (awake x reach l)) refl (awake_keeps x reach h)
 
@@ -116,12 +116,12 @@ wrapped_rests OneShot moves = tt
 wrapped_rests _ moves = absurd moves
 
 -- the run of a stack broken
-broken_keeps : {A : Type 0} {a : Aside} {l : Loop A} → Keeps a l → Keeps a (with_stack (run_broken l.stack) l)
+broken_keeps : {A : Type 0} {a : Unchanged} {l : Loop A} → Keeps a l → Keeps a (with_stack (run_broken l.stack) l)
 broken_keeps {l = l} h = with_deck l.deck None h h.in_mode (no_run l.deck.mode l.deck.pos l.deck.backward) refl
 
 -- going on in these modes
 moves_on :
-    {A : Type 0} {a : Aside} {l : Loop A} (round : Bool) → wraps l.deck.backward l.deck.pos (length_of l) ≡ round →
+    {A : Type 0} {a : Unchanged} {l : Loop A} (round : Bool) → wraps l.deck.backward l.deck.pos (length_of l) ≡ round →
     IsMoving l.deck.mode → Keeps a l → Keeps a (goes_on round l)
 moves_on {l = l} true e moves h =
     broken_keeps (rests_again (wrapped_mode l.deck.mode) (wrapped_place l.deck.backward (length_of l)) l.deck.backward (moving_rests l.deck.mode moves) (wrapped_rests l.deck.mode moves) (wrapped_inside l.deck.backward l.deck.pos (length_of l) (resting_inside (moving_rests l.deck.mode moves) h)) h)
@@ -130,7 +130,7 @@ moves_on {l = l} false e moves h =
 
 -- a loop in a mode that doesn't write goes on
 advances :
-    {A : Type 0} {a : Aside} (l : Loop A) (mode : Mode) → is_writing mode ≡ false → Keeps a (set_to mode l) →
+    {A : Type 0} {a : Unchanged} (l : Loop A) (mode : Mode) → is_writing mode ≡ false → Keeps a (set_to mode l) →
     Keeps a (advanced (set_to mode l))
 advances l Off quiet h = h
 advances l WaitStart quiet h = h
@@ -140,12 +140,12 @@ advances l Muted quiet h = moves_on (wraps l.deck.backward l.deck.pos (length_of
 advances l OneShot quiet h = moves_on (wraps l.deck.backward l.deck.pos (length_of l)) refl tt h
 advances l _ quiet h = absurd (let none : ⊥ = Prim.cc in none)
 
-pub advanced_keeps : {A : Type 0} {a : Aside} {l : Loop A} → is_writing l.deck.mode ≡ false → Keeps a l → Keeps a (advanced l)
+pub advanced_keeps : {A : Type 0} {a : Unchanged} {l : Loop A} → is_writing l.deck.mode ≡ false → Keeps a l → Keeps a (advanced l)
 advanced_keeps {l = l} quiet h = advances l l.deck.mode quiet h
 
 -- a frame that doesn't fit
 overrun_keeps :
-    {A : Type 0} {a : Aside} (l : Loop A) (mode : Mode) → is_writing mode ≡ true → Keeps a (set_to mode l) →
+    {A : Type 0} {a : Unchanged} (l : Loop A) (mode : Mode) → is_writing mode ≡ true → Keeps a (set_to mode l) →
     Keeps a (overrun_in mode (set_to mode l))
 overrun_keeps l Recording writing h = stopped_keeps writing h
 overrun_keeps l mode writing h = advanced_keeps (stopped_is_quiet (set_to mode l)) (stopped_keeps writing h)
@@ -214,7 +214,7 @@ run_overwriting _ run pos backward is h = absurd is
 abbrev pub directed : Bool → How
 directed backward = if backward then Backward else Forward
 
-module _ {A : Type 0} (a : Aside) (l : Loop A) (x : A) (seams tape : ℕ) (run : Option LastWrite) where
+module _ {A : Type 0} (a : Unchanged) (l : Loop A) (x : A) (seams tape : ℕ) (run : Option LastWrite) where
   -- the loop with its stack written, before it goes on
   abbrev pub over : Mode → How → Loop A
   over mode how = with_stack (written_stack how l.deck.pos x seams tape run l.stack) (set_to mode l)
@@ -336,7 +336,7 @@ new_cell false new fits none = fits
 
 -- a write that fits, and the advance behind it
 written_keeps :
-    {A : Type 0} {a : Aside} {l : Loop A} (x : A) → is_writing l.deck.mode ≡ true → IsReady a l → fits a.reach l ≡ true →
+    {A : Type 0} {a : Unchanged} {l : Loop A} (x : A) → is_writing l.deck.mode ≡ true → IsReady a l → fits a.reach l ≡ true →
     Keeps a (advanced (with_stack (written (how_in l.deck.mode l.deck.backward) l.deck.pos x l.stack) l))
 written_keeps {a = a} {l = l} x writing h e =
     let how : How = how_in l.deck.mode l.deck.backward
@@ -347,7 +347,7 @@ written_keeps {a = a} {l = l} x writing h e =
 
 -- a frame in a writing mode
 writes_keeps :
-    {a : Aside} {l : Loop Sound} (fit : Bool) (x : Sound) → fits a.reach l ≡ fit → is_writing l.deck.mode ≡ true → IsReady a l →
+    {a : Unchanged} {l : Loop Sound} (fit : Bool) (x : Sound) → fits a.reach l ≡ fit → is_writing l.deck.mode ≡ true → IsReady a l →
     Keeps a (writes fit x l)
 writes_keeps {l = l} true x e writing h =
     written_keeps (new_frame l.deck.mode l.controls.feedback (sound_at (current_list l.stack.layers) l.deck.pos) x) writing h e
@@ -355,14 +355,14 @@ writes_keeps {l = l} false x e writing h = overrun_keeps l l.deck.mode writing h
 
 -- a frame
 passes_keeps :
-    {a : Aside} {l : Loop Sound} (writing : Bool) (x : Sound) → is_writing l.deck.mode ≡ writing → IsReady a l →
+    {a : Unchanged} {l : Loop Sound} (writing : Bool) (x : Sound) → is_writing l.deck.mode ≡ writing → IsReady a l →
     Keeps a (passes writing x a.reach l)
 passes_keeps {a = a} {l = l} true x e h = writes_keeps (fits a.reach l) x refl e h
 passes_keeps false x e h = advanced_keeps e h.0
 
-pub after_keeps : {a : Aside} {l : Loop Sound} (x : Sound) → IsReady a l → Keeps a (after x a.reach l)
+pub after_keeps : {a : Unchanged} {l : Loop Sound} (x : Sound) → IsReady a l → Keeps a (after x a.reach l)
 after_keeps {l = l} x h = passes_keeps (is_writing l.deck.mode) x refl h
 
 -- a whole frame of a loop
-pub framed_keeps : {a : Aside} {l : Loop Sound} (x : Sound) → Keeps a l → Keeps a (after x a.reach (ready x a.reach l))
+pub framed_keeps : {a : Unchanged} {l : Loop Sound} (x : Sound) → Keeps a l → Keeps a (after x a.reach (ready x a.reach l))
 framed_keeps {a = a} x h = after_keeps x (ready_keeps x a.reach h)

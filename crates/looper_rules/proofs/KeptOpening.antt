@@ -14,7 +14,7 @@ use Rattle.looper_rules.specs.Opening.{opening_tape, opening_seams, first_refusa
 use Rattle.looper_rules.specs.Loop.{Loop}
 use Rattle.looper_rules.specs.Starting.{records, layers_on, starts}
 use Rattle.looper_rules.specs.States.{IsOpenOver, AreClosed, ArePlayable, AreWritten, InMode, AreWithin, IsStack}
-use Rattle.looper_rules.specs.Reached.{AreOrdered, Aside, Keeps, IsLayering}
+use Rattle.looper_rules.specs.Reached.{AreOrdered, Unchanged, Keeps, IsLayering}
 use Rattle.looper_rules.proofs.KeptDecks.{refused_keeps, no_run}
 use Rattle.looper_rules.proofs.KeptLayers.{length-unmarked, total_seams-cons, chunks_of_le, current_end_within, ordered_within}
 
@@ -92,7 +92,7 @@ opening_order empty s order = ((let e = new_layer-end empty (opening_tape s) s.l
 
 -- opening for `record`
 pub opens_record :
-    {A : Type 0} {a : Aside} {l : Loop A} (reach : ℕ) → Keeps a l → AreClosed l.stack.layers → opening reach true l.stack ≡ Ok →
+    {A : Type 0} {a : Unchanged} {l : Loop A} (reach : ℕ) → Keeps a l → AreClosed l.stack.layers → opening reach true l.stack ≡ Ok →
     Keeps a (records Ok l)
 opens_record {l = l} reach h closed ok =
     record {
@@ -121,7 +121,7 @@ written_in _ layers redo pos backward way h = absurd way
 
 -- opening for another writing verb
 pub opens_over :
-    {A : Type 0} {a : Aside} {l : Loop A} (reach : ℕ) (mode : Mode) → IsLayering mode l.deck.backward → Keeps a l →
+    {A : Type 0} {a : Unchanged} {l : Loop A} (reach : ℕ) (mode : Mode) → IsLayering mode l.deck.backward → Keeps a l →
     ArePlayable l.stack.layers l.deck.pos → opening reach false l.stack ≡ Ok → Keeps a (layers_on Ok mode l)
 opens_over {l = l} reach mode way h playable ok =
     let copied = copies (opening_tape l.stack) l.deck.pos l.stack.layers playable
@@ -140,22 +140,22 @@ opens_over {l = l} reach mode way h playable ok =
 
 -- starting `record`, by what becomes of the opening
 records_as :
-    {A : Type 0} {a : Aside} {l : Loop A} (answer : Started) → (answer ≡ Ok → Keeps a (records Ok l)) → Keeps a l →
+    {A : Type 0} {a : Unchanged} {l : Loop A} (answer : Started) → (answer ≡ Ok → Keeps a (records Ok l)) → Keeps a l →
     Keeps a (records answer l)
 records_as Ok opens h = opens refl
 records_as _ opens h = refused_keeps h
 
-pub records_keeps : {A : Type 0} {a : Aside} {l : Loop A} (reach : ℕ) → Keeps a l → AreClosed l.stack.layers → Keeps a (records (opening reach true l.stack) l)
+pub records_keeps : {A : Type 0} {a : Unchanged} {l : Loop A} (reach : ℕ) → Keeps a l → AreClosed l.stack.layers → Keeps a (records (opening reach true l.stack) l)
 records_keeps {l = l} reach h closed = records_as (opening reach true l.stack) (opens_record reach h closed) h
 
 -- starting another writing verb, by what becomes of the opening
 layers_on_as :
-    {A : Type 0} {a : Aside} {l : Loop A} (answer : Started) (mode : Mode) → (answer ≡ Ok → Keeps a (layers_on Ok mode l)) →
+    {A : Type 0} {a : Unchanged} {l : Loop A} (answer : Started) (mode : Mode) → (answer ≡ Ok → Keeps a (layers_on Ok mode l)) →
     Keeps a l → Keeps a (layers_on answer mode l)
 layers_on_as Ok mode opens h = opens refl
 layers_on_as _ mode opens h = refused_keeps h
 
 pub starts_keeps :
-    {A : Type 0} {a : Aside} {l : Loop A} (reach : ℕ) (mode : Mode) → IsLayering mode l.deck.backward → Keeps a l →
+    {A : Type 0} {a : Unchanged} {l : Loop A} (reach : ℕ) (mode : Mode) → IsLayering mode l.deck.backward → Keeps a l →
     ArePlayable l.stack.layers l.deck.pos → Keeps a (starts mode reach l)
 starts_keeps {l = l} reach mode way h playable = layers_on_as (opening reach false l.stack) mode (opens_over reach mode way h playable) h

@@ -7,7 +7,7 @@ use Rattle.looper_rules.specs.Layers.{Layer}
 use Rattle.looper_rules.specs.Stack.{LastWrite}
 use Rattle.looper_rules.specs.Loop.{Loop, is_writing, is_off, length_of}
 use Rattle.looper_rules.specs.States.{AreClosed, ArePlayable, AreWaiting, InMode, IsRun}
-use Rattle.looper_rules.specs.Reached.{Aside, Keeps}
+use Rattle.looper_rules.specs.Reached.{Unchanged, Keeps}
 use Rattle.looper_rules.proofs.KeptDecks.{with_deck}
 
 -- a writing mode is none of the others
@@ -130,7 +130,7 @@ in_resting _ layers redo pos backward rests h = absurd rests
 -- a loop goes from one such mode to another, to another place in its list and another direction
 pub rests_again :
     {A :
-    Type 0} {a : Aside} {l : Loop A} (mode : Mode) (pos : ℕ) (backward : Bool) → IsResting l.deck.mode → IsResting mode → pos < length_of l → Keeps a l →
+    Type 0} {a : Unchanged} {l : Loop A} (mode : Mode) (pos : ℕ) (backward : Bool) → IsResting l.deck.mode → IsResting mode → pos < length_of l → Keeps a l →
     Keeps a (record l { deck = record l.deck { mode = mode; pos = pos; backward = backward } })
 rests_again {l = l} mode pos backward before now inside h =
     let can : ArePlayable l.stack.layers l.deck.pos × AreClosed l.stack.redo = playable l.deck.mode l.stack.layers l.stack.redo l.deck.pos l.deck.backward before h.in_mode
@@ -141,5 +141,5 @@ rests_again {l = l} mode pos backward before now inside h =
     refl
 
 -- it has a place in its list
-pub resting_inside : {A : Type 0} {a : Aside} {l : Loop A} → IsResting l.deck.mode → Keeps a l → l.deck.pos < length_of l
+pub resting_inside : {A : Type 0} {a : Unchanged} {l : Loop A} → IsResting l.deck.mode → Keeps a l → l.deck.pos < length_of l
 resting_inside {l = l} rests h = (playable l.deck.mode l.stack.layers l.stack.redo l.deck.pos l.deck.backward rests h.in_mode).0.1

@@ -7,7 +7,7 @@ use Rattle.looper_rules.specs.Loop.{Loop, with_stack}
 use Rattle.looper_rules.specs.Looper.{Asker, Track, tape_of}
 use Rattle.looper_rules.specs.Saves.{unmarked_layer, pinned, unpinned, pinned_for, freed, loop_asker, session_asker, freed_if, loop_released, session_released}
 use Rattle.looper_rules.specs.States.{IsClosed, IsRecorded, IsOpenOver, AreClosed, HasCurrent, ArePlayable, AreWaiting, AreWritten, InMode, AreWithin}
-use Rattle.looper_rules.specs.Reached.{AreOrdered, GoOnFrom, Aside, Keeps}
+use Rattle.looper_rules.specs.Reached.{AreOrdered, GoOnFrom, Unchanged, Keeps}
 use Rattle.looper_rules.proofs.KeptDecks.{no_run}
 use Rattle.looper_rules.proofs.KeptLayers.{length-unmarked, unmarked-unmarked, total_seams-cons, length-with_current}
 use Rattle.looper_rules.proofs.KeptTracks.{KeepsTracks}
@@ -94,7 +94,7 @@ cleared_end [] = refl
 cleared_end (l ∷ ls) = refl
 
 -- a loop that is pinned
-pub pinned_keeps : {A : Type 0} {a : Aside} {l : Loop A} → Keeps a l → Keeps (record a { pinned = true }) (with_stack (pinned l.stack) l)
+pub pinned_keeps : {A : Type 0} {a : Unchanged} {l : Loop A} → Keeps a l → Keeps (record a { pinned = true }) (with_stack (pinned l.stack) l)
 pinned_keeps {l = l} h =
     record {
       in_mode = cleared_in_mode l.deck.mode l.stack.layers l.stack.redo l.deck.pos l.deck.backward h.in_mode;
@@ -116,7 +116,7 @@ pinned_keeps {l = l} h =
     }
 
 -- a loop without its pin
-pub unpinned_keeps : {A : Type 0} {a : Aside} {l : Loop A} → Keeps a l → Keeps (record a { pinned = false }) (with_stack (unpinned l.stack) l)
+pub unpinned_keeps : {A : Type 0} {a : Unchanged} {l : Loop A} → Keeps a l → Keeps (record a { pinned = false }) (with_stack (unpinned l.stack) l)
 unpinned_keeps {l = l} h =
     record {
       in_mode = h.in_mode;

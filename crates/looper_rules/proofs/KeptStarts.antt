@@ -21,7 +21,7 @@ use Rattle.looper_rules.specs.Looper.{Track, Looper, tape_of}
 use Rattle.looper_rules.specs.Saves.{told_cycle, strip_of}
 use Rattle.looper_rules.specs.Run.{controls_of, loaded_layer, first_track, first_tracks, start, begun, entered}
 use Rattle.looper_rules.specs.States.{IsClosed, IsOpenOver, AreClosed, HasCurrent, AreWaiting, InMode, AreWithin, IsLoop, IsTrack, IsLooper}
-use Rattle.looper_rules.specs.Reached.{Aside, Keeps, AreControls, KeepsTrack, KeepsLooper, AreLists, IsBeginning}
+use Rattle.looper_rules.specs.Reached.{Unchanged, Keeps, AreControls, KeepsTrack, KeepsLooper, AreLists, IsBeginning}
 use Rattle.looper_rules.proofs.KeptLayers.{contents-old_cells}
 use Rattle.looper_rules.proofs.KeptTracks.{used-cons, wet_within}
 use Rattle.looper_rules.proofs.KeptSettings.{dry_range}
@@ -233,7 +233,7 @@ strip_valid reach frame t h =
     h.controls.feedback) h.controls.wet) h.controls.round) h.controls.quantize) h.controls.rec_thresh
 
 -- what a loop keeps is what always holds of it
-pub loop_holds : {A : Type 0} {a : Aside} {l : Loop A} → Keeps a l → IsLoop l
+pub loop_holds : {A : Type 0} {a : Unchanged} {l : Loop A} → Keeps a l → IsLoop l
 loop_holds h = record { in_mode = h.in_mode; run = h.run; stack = h.stack; refused = h.refused }
 
 track_holds : (reach frame : ℕ) (t : Track) → KeepsTrack reach frame t → IsTrack frame t

@@ -15,13 +15,13 @@ use Rattle.looper_rules.specs.Gains.{gain_after}
 use Rattle.looper_rules.specs.Looper.{Track, tape_of, reach_of, swept, at_index, on_loop}
 use Rattle.looper_rules.specs.Frame.{at_boundary, played_on, played}
 use Rattle.looper_rules.specs.States.{IsPressBefore}
-use Rattle.looper_rules.specs.Reached.{Aside, Keeps, KeepsLoops, AreControls, aside_of, KeepsTrack}
+use Rattle.looper_rules.specs.Reached.{Unchanged, Keeps, KeepsLoops, AreControls, unchanged_of, KeepsTrack}
 use Rattle.looper_rules.proofs.KeptPresses.{waiting_acts_keeps}
 use Rattle.looper_rules.proofs.KeptLoopFrame.{framed_keeps}
 
--- a loop keeps what it has, whatever was left aside, with its own controls and press and another reach
+-- a loop keeps what it has, whatever was left unchanged, with its own controls and press and another reach
 pub own :
-    {A : Type 0} {a : Aside} {l : Loop A} (reach : ℕ) → Keeps a l → chunks_of l.stack.tape ≤ reach →
+    {A : Type 0} {a : Unchanged} {l : Loop A} (reach : ℕ) → Keeps a l → chunks_of l.stack.tape ≤ reach →
     Keeps (record { reach = reach; pinned = a.pinned; controls = l.controls; press = l.deck.press }) l
 own reach h within =
     record {
@@ -41,10 +41,10 @@ own reach h within =
 pub reaching : {reach frame : ℕ} {t : Track} (other : ℕ) → KeepsTrack reach frame t → chunks_of (tape_of t) ≤ other → KeepsTrack other frame t
 reaching other h within = record { loop = own other h.loop within; controls = h.controls; gain = h.gain; press = h.press }
 
--- a track whose loop keeps what was left aside
+-- a track whose loop keeps what was left unchanged
 pub track_keeps :
     {reach frame : ℕ} {t : Track} {l : Loop Sound} (gain : ℕ) → KeepsTrack reach frame t → gain ≤ 1000 →
-    Keeps (aside_of reach t) l → KeepsTrack reach frame (record t { loop = l; gain = gain })
+    Keeps (unchanged_of reach t) l → KeepsTrack reach frame (record t { loop = l; gain = gain })
 track_keeps {reach = reach} {frame = frame} gain h within k =
     record {
       loop = own reach k k.reach;
@@ -58,7 +58,7 @@ abbrev pub KeepsTracks : ℕ → (ℕ → Track → Track) → Type 0
 KeepsTracks frame act = (reach : ℕ) (t : Track) → KeepsTrack reach frame t → KeepsTrack reach frame (act reach t)
 
 pub on_loop_keeps : (frame : ℕ) (act : ℕ → Loop Sound → Loop Sound) → KeepsLoops act → KeepsTracks frame (on_loop act)
-on_loop_keeps frame act keeps reach t h = track_keeps t.gain h h.gain (keeps (aside_of reach t) t.loop h.loop)
+on_loop_keeps frame act keeps reach t h = track_keeps t.gain h h.gain (keeps (unchanged_of reach t) t.loop h.loop)
 
 -- one track more uses its chunks more
 pub used-cons : (t : Track) (ts : List Track) → used (map tape_of (t ∷ ts)) ≡ chunks_of (tape_of t) + used (map tape_of ts)

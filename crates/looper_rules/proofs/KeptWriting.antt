@@ -15,7 +15,7 @@ use Rattle.looper_rules.specs.Room.{chunks_of, has_room}
 use Rattle.looper_rules.specs.Writing.{overwrites, meets_fresh, new_cell_fits, with_cell, with_written, extension_fits, with_base, extended}
 use Rattle.looper_rules.specs.Loop.{Deck, Loop, length_of, with_stack}
 use Rattle.looper_rules.specs.States.{IsRecorded, IsOpenOver, HasCurrent, InMode, IsRun, AreWithin}
-use Rattle.looper_rules.specs.Reached.{AreOrdered, GoOnFrom, Aside, Keeps}
+use Rattle.looper_rules.specs.Reached.{AreOrdered, GoOnFrom, Unchanged, Keeps}
 use Rattle.looper_rules.proofs.KeptLayers.{total_seams-cons, length-with_current}
 
 -- one frame more where there is room takes no chunk that isn't reached
@@ -59,7 +59,7 @@ written_length how place c cells true is inside = (let same = length-over how pl
 written_length how place c cells false is inside = (let more = length-added how place c cells is inside in (omega arith, omega arith))
 
 -- what a write asks: seams, tape, chunks and length
-pub record Writes {A : Type 0} (a : Aside) (how : How) (place : ℕ) (s : Stack A) (seams tape : ℕ) : Type 0 where
+pub record Writes {A : Type 0} (a : Unchanged) (how : How) (place : ℕ) (s : Stack A) (seams tape : ℕ) : Type 0 where
   pub inside : place ≤ current_length s.layers
   pub seams_within : total_seams s.layers + seams ≤ max_seams
   pub longer : s.tape ≤ tape
@@ -147,7 +147,7 @@ no_layers_seams layers none = subst (λ ls. total_seams ls ≡ 0) (sym none) ref
 -- a loop after a write, with its deck moved on
 pub wrote :
     {A :
-    Type 0} {a : Aside} {l : Loop A} (d : Deck) (how : How) (place : ℕ) (x : A) (seams tape : ℕ) (run : Option LastWrite) → Keeps a l → Writes a how place l.stack seams tape → l.stack.redo ≡ [] → d.press ≡ l.deck.press →
+    Type 0} {a : Unchanged} {l : Loop A} (d : Deck) (how : How) (place : ℕ) (x : A) (seams tape : ℕ) (run : Option LastWrite) → Keeps a l → Writes a how place l.stack seams tape → l.stack.redo ≡ [] → d.press ≡ l.deck.press →
     InMode d.mode (written_layers how place x seams l.stack.layers) l.stack.redo d.pos d.backward →
     IsRun d.mode run d.pos d.backward →
     Keeps a (record l { deck = d; stack = written_stack how place x seams tape run l.stack })
@@ -174,7 +174,7 @@ wrote {l = l} d how place x seams tape run h w no_redo press in_mode goes =
 
 -- a write over a fresh cell asks nothing
 pub fresh_fits :
-    {A : Type 0} {a : Aside} {l : Loop A} (how : How) (place : ℕ) → Keeps a l → place ≤ length_of l →
+    {A : Type 0} {a : Unchanged} {l : Loop A} (how : How) (place : ℕ) → Keeps a l → place ≤ length_of l →
     meets_fresh how place l.stack ≡ true → Writes a how place l.stack 0 l.stack.tape
 fresh_fits {l = l} how place h inside meets =
     record {
@@ -197,7 +197,7 @@ new_room false len free adds = ltb-true len max_length free
 
 -- a new cell that fits has all that it asks
 pub new_fits :
-    {A : Type 0} {a : Aside} {l : Loop A} (how : How) (place : ℕ) → Keeps a l → place ≤ length_of l →
+    {A : Type 0} {a : Unchanged} {l : Loop A} (how : How) (place : ℕ) → Keeps a l → place ≤ length_of l →
     new_cell_fits a.reach how l.stack ≡ true → Writes a how place l.stack (cond (is_some l.stack.run) 0 2) (l.stack.tape + 1)
 new_fits {a = a} {l = l} how place h inside fits =
     let parts = and_parts (has_room a.reach l.stack.tape && (is_some l.stack.run || nat_le (total_seams l.stack.layers) (max_seams - 2))) (overwrites how || nat_lt (current_length l.stack.layers) max_length) fits
@@ -238,7 +238,7 @@ extended_order (l ∷ ls) order = order
 -- a Multiplying whose list is extended
 pub extended_keeps :
     {A :
-    Type 0} {a : Aside} {l : Loop A} → Keeps a l → InMode Multiplying l.stack.layers l.stack.redo l.deck.pos l.deck.backward → l.deck.mode ≡ Multiplying → extension_fits l.stack ≡ true →
+    Type 0} {a : Unchanged} {l : Loop A} → Keeps a l → InMode Multiplying l.stack.layers l.stack.redo l.deck.pos l.deck.backward → l.deck.mode ≡ Multiplying → extension_fits l.stack ≡ true →
     Keeps a (with_stack (extended l.stack) l) × (l.deck.pos < length_of (with_stack (extended l.stack) l))
 extended_keeps {l = l} h now is fits =
     let parts = and_parts (nat_le (current_length l.stack.layers + current_base_length l.stack.layers) max_length) (nat_le (total_seams l.stack.layers + current_base_seams l.stack.layers) max_seams) fits

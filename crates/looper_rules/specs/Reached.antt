@@ -33,14 +33,14 @@ GoOnFrom end [] = ⊤
 GoOnFrom end (l ∷ ls) = (end ≤ l.end) × GoOnFrom l.end ls
 
 -- what verbs and frames leave as it is: the chunks in reach, whether a pin stands, the controls and the press
-pub record Aside : Type 0 where
+pub record Unchanged : Type 0 where
   pub reach : ℕ
   pub pinned : Bool
   pub controls : Controls
   pub press : Option Held
 
 -- what a loop keeps
-pub record Keeps {A : Type 0} (a : Aside) (l : Loop A) : Type 0 where
+pub record Keeps {A : Type 0} (a : Unchanged) (l : Loop A) : Type 0 where
   pub in_mode : InMode l.deck.mode l.stack.layers l.stack.redo l.deck.pos l.deck.backward
   pub run : IsRun l.deck.mode l.stack.run l.deck.pos l.deck.backward
   pub stack : IsStack l.stack
@@ -63,7 +63,7 @@ IsLayering _ backward = ⊥
 
 -- what is done to a loop that reaches so many chunks keeps it
 abbrev pub KeepsLoops : (ℕ → Loop Sound → Loop Sound) → Type 0
-KeepsLoops act = (a : Aside) (l : Loop Sound) → Keeps a l → Keeps a (act a.reach l)
+KeepsLoops act = (a : Unchanged) (l : Loop Sound) → Keeps a l → Keeps a (act a.reach l)
 
 -- a loop's controls lie in their ranges
 pub record AreControls (c : Controls) : Type 0 where
@@ -73,13 +73,13 @@ pub record AreControls (c : Controls) : Type 0 where
   pub quantize : IsTrue (is_in_range Quantize (pos c.quantize) 0)
   pub rec_thresh : IsTrue (is_in_range RecThresh (pos c.rec_thresh) 0)
 
--- what is left aside of a track that reaches so many chunks: a pin stands where someone asked for a save
-abbrev pub aside_of : ℕ → Track → Aside
-aside_of reach t = record { reach = reach; pinned = is_some t.asker; controls = t.loop.controls; press = t.loop.deck.press }
+-- what verbs and frames leave unchanged of a track that reaches so many chunks: a pin stands where someone asked for a save
+abbrev pub unchanged_of : ℕ → Track → Unchanged
+unchanged_of reach t = record { reach = reach; pinned = is_some t.asker; controls = t.loop.controls; press = t.loop.deck.press }
 
 -- what a track keeps, when so many frames are done
 pub record KeepsTrack (reach frame : ℕ) (t : Track) : Type 0 where
-  pub loop : Keeps (aside_of reach t) t.loop
+  pub loop : Keeps (unchanged_of reach t) t.loop
   pub controls : AreControls t.loop.controls
   pub gain : t.gain ≤ 1000
   pub press : IsPressBefore frame t.loop.deck.press

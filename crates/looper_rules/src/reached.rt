@@ -18,25 +18,25 @@ ghost use Rattle.looper_rules.specs.Entries.{applied};
 ghost use Rattle.looper_rules.specs.Frame.{framed};
 ghost use Rattle.looper_rules.specs.Run.{entered, begun, run, start};
 ghost use Rattle.looper_rules.specs.States.{AreClosed, ArePlayable, IsLoop, IsLooper};
-ghost use Rattle.looper_rules.specs.Reached.{Aside, IsLayering, KeepsLoops, Keeps, KeepsLooper, IsBeginning};
+ghost use Rattle.looper_rules.specs.Reached.{Unchanged, IsLayering, KeepsLoops, Keeps, KeepsLooper, IsBeginning};
 
 /// What a loop keeps is more than what always holds of it.
 pub fn a_kept_loop_is_a_loop()
-    ensures { (a : Aside) (l : Loop Sound) → Keeps a l → IsLoop l }
+    ensures { (a : Unchanged) (l : Loop Sound) → Keeps a l → IsLoop l }
 {}
 
 /// A loop keeps it where a layer is opened over closed ones.
 pub fn an_opening_keeps_the_loop()
-    ensures recorded { (a : Aside) (l : Loop Sound) → Keeps a l → AreClosed l.stack.layers →
+    ensures recorded { (a : Unchanged) (l : Loop Sound) → Keeps a l → AreClosed l.stack.layers →
         Keeps a (records (opening a.reach true l.stack) l) }
-    ensures copied { (a : Aside) (mode : Mode) (l : Loop Sound) → Keeps a l →
+    ensures copied { (a : Unchanged) (mode : Mode) (l : Loop Sound) → Keeps a l →
         ArePlayable l.stack.layers l.deck.pos → IsLayering mode l.deck.backward →
         Keeps a (starts mode a.reach l) }
 {}
 
 /// It keeps it where its open layer is closed.
 pub fn a_closing_keeps_the_loop()
-    ensures { (a : Aside) (l : Loop Sound) → Keeps a l → IsTrue (is_writing l.deck.mode) → Keeps a (closed l) }
+    ensures { (a : Unchanged) (l : Loop Sound) → Keeps a l → IsTrue (is_writing l.deck.mode) → Keeps a (closed l) }
 {}
 
 /// Every verb keeps it, in every mode, and a verb that is given or has waited.
