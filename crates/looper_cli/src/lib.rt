@@ -2,6 +2,8 @@
 #![tactic(auto)]
 
 mod console;
+mod first_journal;
+mod one_run;
 mod status;
 mod words;
 
