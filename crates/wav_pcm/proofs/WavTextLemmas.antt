@@ -2,15 +2,14 @@
 use Rattle.std.proofs.Common.{replicate, sym, ap, ◌∙◌, [], ◌∷◌, ◌≡◌, ℕ, suc, ◌+◌, ◌*◌, ◌/◌, ◌%◌, ◌^◌, ◌≤◌, ◌<◌, ◌-◌, List, ◌++◌, length, take, drop, get_or, inl, inr, arith, refl, length-append}
 use Rattle.std.proofs.lemmas.Int.{ints}
 use Rattle.std.proofs.lemmas.Grind.{flat_map-append}
-use Rattle.std.proofs.lemmas.List.{append_assoc, append-nil, drop-drop, drop_all, drop_at, length-drop, length-take-le, take_all, take_at, take_more}
+use Rattle.std.proofs.lemmas.List.{append_assoc, append-nil, drop-drop, drop_all, drop_at, length-drop, length-replicate, length-take-le, take_all, take_at, take_more}
 use Rattle.std.specs.Prelude.{ℤ, pos, negsuc}
 use Rattle.std.specs.Int.{w16, w64, cast_unsigned}
 use borrow.Rule.Slice.PartMut.{put_mid}
-use Rattle.byteorder.specs.Endian.{low_bytes, little_bytes}
-use Rattle.byteorder.specs.Numbers.{length-bytes_low_first}
+use Rattle.byteorder.specs.Endian.{low_bytes}
 use Rattle.sl_base.specs.Arithmetic.{IsSample}
 use Rattle.sl_base.specs.Sounds.{Sound}
-use Rattle.wav_pcm.specs.WavText.{IsFormat, frame_size, twos_complement, sample_bytes, frame_bytes, padding, samples, samples_size}
+use Rattle.wav_pcm.specs.WavText.{IsFormat, frame_size, twos_complement, sample_bytes, frame_bytes, padding, samples, samples_size, text_size, wav_header, wav_text}
 
 -- a frame has 6 bytes at most
 pub frame_size_within : (channels bits : ℕ) → IsFormat channels bits → frame_size channels bits ≤ 6
@@ -114,3 +113,15 @@ pub text_written : (header bytes out headed sampled zeros : List ℕ) (size give
 text_written header bytes out headed sampled zeros size given headed_is sampled_is given_is header_size bytes_size room zeros_are =
     let zeros_there = rw (headed_is, sampled_is, given_is) at zeros_are in
     rw (headed_is, sampled_is, given_is) (text_written-parts header bytes out size zeros header_size bytes_size room zeros_there)
+
+-- the bytes of the whole text
+pub length-wav_text : (frames : List Sound) (channels bits rate : ℕ) → IsFormat channels bits → length (wav_text frames channels bits rate) ≡ text_size (length frames) channels bits
+length-wav_text frames channels bits rate format =
+    let size : ℕ = samples_size (length frames) channels bits in
+    let bytes : List ℕ = samples channels bits frames in
+    let header : List ℕ = wav_header size channels bits rate in
+    length-append header (bytes ++ padding size)
+    ∙ ap (λ (n : ℕ). 44 + n) (length-append bytes (padding size))
+    ∙ ap (λ (n : ℕ). 44 + (n + length (padding size))) (length-samples channels bits frames format)
+    ∙ ap (λ (n : ℕ). 44 + (size + n)) (length-replicate (size % 2) 0)
+    ∙ omega arith

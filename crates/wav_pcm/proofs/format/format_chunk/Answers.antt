@@ -1,4 +1,4 @@
-use Rattle.std.proofs.Common.{◌*◌, ◌≤◌, Fits, w32, arith}
+use Rattle.std.proofs.Common.{◌*◌, ◌≤◌, arith}
 use Rattle.std.proofs.Math.Nat.{mul-le-mul}
 use Rattle.wav_pcm.specs.WavText.{frame_size}
 use Rattle.wav_pcm.proofs.WavTextLemmas.{frame_size_within}

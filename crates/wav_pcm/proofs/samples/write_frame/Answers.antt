@@ -1,10 +1,9 @@
-use Rattle.std.proofs.Common.{◌≡◌, ◌*◌, ◌/◌, ◌-◌, ◌≤◌, ◌+◌, length, arith, rules, take, drop, ◌++◌, inl, inr, ap, sym, ◌∙◌}
+use Rattle.std.proofs.Common.{◌/◌, ◌-◌, length, arith, rules, drop, inl, inr}
 use Rattle.std.proofs.lemmas.Int.{to_z-of_z}
 use Rattle.std.proofs.lemmas.List.{drop_all, length-drop}
 use Rattle.std.specs.Int.{w32}
 use mir.Val.{SFits}
-use Rattle.sl_base.specs.Sounds.{Sound}
-use Rattle.wav_pcm.specs.WavText.{frame_size, sample_bytes, frame_bytes}
+use Rattle.wav_pcm.specs.WavText.{sample_bytes}
 use Rattle.wav_pcm.proofs.WavTextLemmas.{pair_written, length-sample_bytes}
 use Rattle.wav_pcm.proofs.samples.write_frame.Goals as goal
 

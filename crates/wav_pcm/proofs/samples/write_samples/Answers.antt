@@ -1,6 +1,6 @@
-use Rattle.std.proofs.Common.{◌≡◌, ◌*◌, ◌≤◌, ◌+◌, length, arith, rules, take, drop, ◌++◌}
+use Rattle.std.proofs.Common.{◌*◌, ◌≤◌, length, arith}
 use Rattle.std.proofs.Math.Nat.{mul-le-mul_right}
-use Rattle.wav_pcm.specs.WavText.{frame_size, samples, frame_bytes}
+use Rattle.wav_pcm.specs.WavText.{frame_size}
 use Rattle.wav_pcm.proofs.WavTextLemmas.{samples-more}
 use Rattle.wav_pcm.proofs.samples.write_samples.Goals as goal
 

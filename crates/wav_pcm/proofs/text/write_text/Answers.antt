@@ -1,6 +1,6 @@
 use Rattle.std.proofs.Common.{ℕ, ◌≡◌, ◌*◌, ◌∙◌, ap, arith, length, refl}
 use Rattle.std.proofs.lemmas.List.{length-take-le}
-use Rattle.wav_pcm.specs.WavText.{samples, samples_size, wav_header, wav_text}
+use Rattle.wav_pcm.specs.WavText.{samples, samples_size, wav_header}
 use Rattle.wav_pcm.proofs.WavTextLemmas.{text_written, length-samples}
 use Rattle.wav_pcm.proofs.text.write_text.Goals as goal
 
