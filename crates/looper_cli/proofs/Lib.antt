@@ -1,2 +1,5 @@
-pub mod WordsLemmas
+pub mod FirstJournalLemmas
+pub mod NumeralLemmas
 pub mod OneRunLemmas
+pub mod WordsLemmas
+pub mod InputLemmas

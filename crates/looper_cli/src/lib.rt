@@ -2,8 +2,11 @@
 #![tactic(auto)]
 
 mod console;
+mod files;
 mod first_journal;
+mod numeral;
 mod one_run;
+mod render;
 mod status;
 mod words;
 

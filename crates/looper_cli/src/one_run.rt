@@ -67,7 +67,8 @@ fn run_over(
 /// What is heard of the input, with hits of record at these frames: one frame for each that comes in.
 pub fn one_run(alloc: Global, input: &[Frame], hits: &[u64]) -> Result<Vec<Frame>, Memory>
     requires { NeverFallsFrom 0 hits.now }
-    ensures { IfOk result (λ output. output.items ≡ one_run hits.now input.now) }
+    ensures value { IfOk result (λ output. output.items ≡ one_run hits.now input.now) }
+    ensures same_length { IfOk result (λ output. length output.items ≡ length input.now) }
 {
     let mut output = silent(alloc, input.len())?;
     let mut strip = Strip::new(alloc);

@@ -2,8 +2,8 @@
 
 ghost use Rattle.std.specs.Prelude.{map};
 ghost use Rattle.std.specs.String.{string_bytes};
-ghost use Rattle.looper_cli.specs.Words.{files_of, files_named};
-ghost use Rattle.looper_cli.specs.Named.{GivesFiles};
+ghost use Rattle.looper_cli.specs.Words.{names_of, names_in};
+ghost use Rattle.looper_cli.specs.Named.{GivesNames};
 
 use sl_base::Name;
 use thiserror::Error;
@@ -29,7 +29,7 @@ pub enum WordsFault {
 
 /// The run that four words name.
 fn render_of(first: &[u8], input: &[u8], journal: &[u8], out: &[u8]) -> Result<Render, WordsFault>
-    ensures { GivesFiles (files_of first.now (record { input = input.now; journal = journal.now; out = out.now })) result }
+    ensures { GivesNames (names_of first.now (record { input = input.now; journal = journal.now; out = out.now })) result }
 {
     if first != b"render".as_slice() {
         return Err(WordsFault::Words);
@@ -52,7 +52,7 @@ fn render_of(first: &[u8], input: &[u8], journal: &[u8], out: &[u8]) -> Result<R
 
 /// The run that the words name: `render IN JOURNAL OUT`, byte for byte, each of the three a file's name.
 pub fn words_of(words: &[String]) -> Result<Render, WordsFault>
-    ensures { GivesFiles (files_named (map string_bytes words.now)) result }
+    ensures { GivesNames (names_in (map string_bytes words.now)) result }
 {
     if words.len() != 4 {
         return Err(WordsFault::Words);
