@@ -1,9 +1,8 @@
 //! Reading one channel of 16 bits.
 
-ghost use Rattle.std.specs.Prelude.{◌≡◌, ◌≢◌, ℕ, ◌-◌, ◌/◌, ◌≤◌, ◌<◌, ◌^◌, ◌↔◌, List, length, IsTrue, IfOk, IfSome, IfNone};
-ghost use Rattle.sl_base.specs.Sounds.{Sound};
-ghost use Rattle.wav_pcm.specs.Mono16.{sounds, HasHeader, IsMono16, IsReadable};
-ghost use Rattle.wav_pcm.specs.WavText.{wav_header, wav_text};
+ghost use Rattle.std.specs.Prelude.{◌≡◌, ℕ, ◌-◌, ◌/◌, ◌≤◌, ◌<◌, ◌^◌, ◌↔◌, length, IsTrue, IfOk, IfSome, IfNone};
+ghost use Rattle.wav_pcm.specs.Mono16.{sounds, HasHeader, IsMono16, IsNotMono16};
+ghost use Rattle.wav_pcm.specs.WavText.{wav_header};
 
 use crate::format::write_header;
 use byteorder::{ByteOrder, LittleEndian};
@@ -84,7 +83,7 @@ fn rate_of(bytes: &[u8]) -> Option<u32>
 pub fn read_mono16(alloc: Global, bytes: &[u8]) -> Result<Option<Wav>, Memory>
     ensures found { IfOk result (λ answer. IfSome answer (λ wav. IsMono16 bytes.now wav.frames wav.rate)) }
     ensures form { IfOk result (λ answer. IfSome answer (λ wav. (wav.channels ≡ 1) × (wav.bits ≡ 16))) }
-    ensures only { IfOk result (λ answer. IfNone answer ((frames : List Sound) (rate : ℕ) → IsReadable frames rate → bytes.now ≢ wav_text frames 1 16 rate)) }
+    ensures only { IfOk result (λ answer. IfNone answer (IsNotMono16 bytes.now)) }
 {
     match rate_of(bytes) {
         None => Ok(None),
