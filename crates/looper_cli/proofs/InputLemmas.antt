@@ -1,8 +1,7 @@
 -- What a reading says of a file.
-use Rattle.std.proofs.Common.{◌≡◌, ℕ, List, Option, Some, None, Result, Ok, Err, sym, ◌∙◌, subst}
-use Rattle.sl_ports.specs.Files.{Files, Holds}
+use Rattle.std.proofs.Common.{◌≡◌, ℕ, List}
 use Rattle.sl_base.specs.Sounds.{Sound}
-use Rattle.wav_pcm.specs.Mono16.{IsMono16, IsReadable}
+use Rattle.wav_pcm.specs.Mono16.{IsReadable}
 use Rattle.wav_pcm.specs.WavText.{wav_text}
 use Rattle.looper_cli.specs.Inputs.{IsInput}
 

@@ -3,3 +3,4 @@ pub mod NumeralLemmas
 pub mod OneRunLemmas
 pub mod WordsLemmas
 pub mod InputLemmas
+pub mod EndingLemmas

@@ -2,7 +2,6 @@
 use Rattle.std.specs.Prelude.{◌≡◌, ℕ, List, Result, Ok, Err, ⊤}
 use Rattle.std.specs.declared.vec.Vec.{Vec}
 use Rattle.std.specs.declared.alloc.Global.{Global}
-use Rattle.looper_cli.specs.declared.status.FileFault.{FileFault}
 use Rattle.looper_cli.specs.declared.status.FileFault.TheVariants.{Missing, NotYet}
 use Rattle.looper_cli.specs.declared.files.Unread.{Unread}
 use Rattle.looper_cli.specs.declared.files.Unread.TheVariants.{Bad, Failed, Memory}

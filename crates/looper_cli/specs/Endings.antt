@@ -7,7 +7,7 @@
 --   those of a run that is done.
 -- - Memory: no file changed.
 -- The console has the text of the status, or a prefix of it, and then only where its count rose.
-use Rattle.std.specs.Prelude.{◌≡◌, ◌⊎◌, ℕ, Option, Some, None, List, length}
+use Rattle.std.specs.Prelude.{◌≡◌, ◌⊎◌, ℕ, Option, List, length}
 use Rattle.std.specs.Io.KnownBytes.{Appends}
 use Rattle.sl_base.specs.Sounds.{Sound}
 use Rattle.sl_ports.specs.Faults.{Rose}

@@ -8,7 +8,10 @@ mod numeral;
 mod one_run;
 mod render;
 mod status;
+mod top;
 mod words;
 
+pub use first_journal::{Hits, read_first_journal};
 pub use status::{FileFault, Status};
+pub use top::plain_run;
 pub use words::{Render, WordsFault, words_of};
