@@ -95,7 +95,8 @@ impl Name {
     }
 
     pub fn as_str(&self) -> &str
-        ensures { result.now ≡ self.now }
+        ensures value { result.now ≡ self.now }
+        ensures fits { length result.now ≤ 64 }
     {
         self.text.as_str()
     }

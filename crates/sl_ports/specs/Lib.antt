@@ -5,3 +5,5 @@ pub mod Reading
 pub mod Keeping
 pub mod Calls
 pub mod MemoryEnds
+pub mod RealEnds
+pub mod Transfers

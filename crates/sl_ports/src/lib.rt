@@ -11,12 +11,20 @@
 #![tactic(auto)]
 
 mod calls;
+mod dir_keeper;
 mod keepers;
 mod mem_keeper;
 mod mem_sink;
 mod sinks;
+mod std_sink;
+mod transfer;
 
+pub use dir_keeper::DirKeeper;
 pub use keepers::{FileAnswer, KeepAnswer, Keeper};
 pub use mem_keeper::MemKeeper;
 pub use mem_sink::MemSink;
 pub use sinks::{Sink, SinkAnswer};
+pub use std_sink::StdSink;
+
+#[cfg(test)]
+mod tests;

@@ -1,0 +1,5 @@
+pub mod FirstJournalLemmas
+pub mod NumeralLemmas
+pub mod OneRunLemmas
+pub mod WordsLemmas
+pub mod InputLemmas

@@ -1,0 +1,7 @@
+-- A real end keeps its counts of faults and tells nothing of what it holds.
+use Rattle.std.specs.Prelude.{ℕ}
+
+-- the counts of faults of a keeper of real files
+pub record FaultCounts : Type 0 where
+  pub reads : ℕ
+  pub writes : ℕ

@@ -1,0 +1,48 @@
+//! Standard output as a sink.
+
+ghost use Rattle.std.specs.Prelude.{◌≡◌, None};
+
+use crate::sinks::{Sink, SinkAnswer};
+use crate::transfer::write_whole;
+use std::io;
+use std::marker::Model;
+
+/// Writes to standard output, at once and with no buffer. It tells nothing of what was written.
+#[derive(Drop)]
+pub struct StdSink<R> {
+    rt: R,
+    faults: u64,
+}
+
+impl<R> Model for StdSink<R> {
+    ghost use Rattle.std.specs.Prelude.{ℕ};
+
+    ghost Value = { ℕ };
+
+    ghost view = { λ s. s.faults };
+}
+
+impl<R> StdSink<R> {
+    /// The standard output of this runtime. Contracts see the sink as its count of faults.
+    pub fn new(rt: R) -> StdSink<R>
+        ensures { result ≡ 0 }
+    {
+        StdSink { rt, faults: 0 }
+    }
+}
+
+impl<R: Print> Sink for StdSink<R> {
+    ghost faults = { λ s. s };
+
+    ghost held = { λ _. None };
+
+    fn write_all(&mut self, bytes: &[u8]) -> SinkAnswer {
+        match write_whole(&mut io::writer(&self.rt), bytes) {
+            Ok(()) => SinkAnswer::Done,
+            Err(_) => {
+                self.faults = self.faults.saturating_add(1);
+                SinkAnswer::Failed
+            }
+        }
+    }
+}

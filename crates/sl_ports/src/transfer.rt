@@ -1,0 +1,97 @@
+//! Whole files and texts through the system's reads and writes, each of which may take a part.
+
+ghost use Rattle.std.specs.Prelude.{OnOk};
+ghost use Rattle.std.specs.Io.{ReadsAtMost, WritesAtMost};
+ghost use Rattle.std.specs.Io.KnownBytes.{Appends, ReadConsumes, WriteAppends};
+ghost use Rattle.sl_ports.specs.Transfers.{ReadsWhole};
+
+use crate::keepers::FileAnswer;
+use std::alloc::Global;
+use std::fs::OpenFile;
+use std::io;
+use std::io::{ErrorKind, Read, Write};
+
+// The turns in which a file has to end. Each takes at least one byte.
+const TURNS: u64 = 4294967296;
+
+// The bytes asked for in one turn.
+const PIECE: usize = 65536;
+
+// One read. What a signal breaks off is tried again.
+fn read_piece<F: Read>(file: &mut F, piece: &mut [u8]) -> io::Result<usize>
+    ensures within { ReadsAtMost result piece.new }
+    ensures value { ReadConsumes (F.remaining file.old) (F.remaining file.new) result piece.new }
+{
+    'tries: for _ in 0..u64::MAX {
+        match file.read(piece) {
+            Ok(count) => return Ok(count),
+            Err(e) => {
+                if e.kind() != ErrorKind::Interrupted {
+                    return Err(e);
+                }
+            }
+        }
+    }
+    Err(io::Error::from(ErrorKind::Interrupted))
+}
+
+// One write. What a signal breaks off is tried again.
+fn write_piece<W: Write>(to: &mut W, piece: &[u8]) -> io::Result<usize>
+    ensures within { WritesAtMost result piece.now }
+    ensures value { WriteAppends (W.contents to.old) (W.contents to.new) result piece.now }
+{
+    'tries: for _ in 0..u64::MAX {
+        match to.write(piece) {
+            Ok(count) => return Ok(count),
+            Err(e) => {
+                if e.kind() != ErrorKind::Interrupted {
+                    return Err(e);
+                }
+            }
+        }
+    }
+    Err(io::Error::from(ErrorKind::Interrupted))
+}
+
+/// Reads an open file to its end. Its length is reserved at once, so that its memory is not doubled on the way.
+pub fn read_whole<F: Read + OpenFile>(alloc: Global, file: &mut F) -> FileAnswer
+    ensures { ReadsWhole (F.remaining file.old) result }
+{
+    let length = match file.metadata() {
+        Ok(metadata) => metadata.len(),
+        Err(_) => 0,
+    };
+    let Ok(mut bytes) = Vec::with_capacity(alloc, length as usize) else {
+        return FileAnswer::Memory;
+    };
+    let mut piece = [0; PIECE];
+    'turns: for _ in 0..TURNS {
+        match read_piece(file, &mut piece) {
+            Ok(0) => return FileAnswer::Bytes(bytes),
+            Ok(count) => {
+                if bytes.extend_from_slice(&piece[..count]).is_err() {
+                    return FileAnswer::Memory;
+                }
+            }
+            Err(e) if e.kind() == ErrorKind::OutOfMemory => return FileAnswer::Memory,
+            Err(_) => return FileAnswer::Failed,
+        }
+    }
+    FileAnswer::Failed
+}
+
+/// Writes all of the bytes. To take none of a piece that has some is an error.
+pub fn write_whole<W: Write>(to: &mut W, bytes: &[u8]) -> io::Result<()>
+    ensures { OnOk result (Appends (W.contents to.old) (W.contents to.new) bytes.now) }
+{
+    let mut done = 0;
+    while done < bytes.len() {
+        let (_, rest) = bytes.split_at(done);
+        let count = write_piece(to, rest)?;
+        if count == 0 {
+            return Err(io::Error::from(ErrorKind::WriteZero));
+        }
+        done += count;
+    }
+    Ok(())
+}
