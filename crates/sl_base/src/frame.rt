@@ -6,7 +6,7 @@ ghost use Rattle.sl_base.specs.Sounds.{silence};
 use std::marker::Model;
 
 /// One moment's sample on both sides, each -8388608 to 8388607.
-#[derive(Clone, Copy, Debug, PartialEq, Eq)]
+#[derive(Clone, Copy, Debug, Default, PartialEq, Eq)]
 pub struct Frame {
     pub left: i32,
     pub right: i32,

@@ -79,6 +79,13 @@ impl Name {
         Some(Name { text })
     }
 
+    /// The same name once more.
+    pub fn duplicate(&self) -> Name
+        ensures { result ≡ self.now }
+    {
+        Name { text: self.text }
+    }
+
     /// The bytes of the name.
     pub fn as_bytes(&self) -> &[u8]
         ensures value { result.now ≡ self.now }

@@ -1,0 +1,4 @@
+pub mod TableLemmas
+pub mod SettingsLemmas
+pub mod EntriesLemmas
+pub mod BlockLemmas

@@ -1,0 +1,74 @@
+//! What holds of the definitions: each function's clause is a law, and its body is empty.
+
+ghost use Rattle.std.specs.Prelude.{◌≡◌, ℕ, ◌<◌, ◌&&◌, ◌+◌, pos, [], ◌∷◌, length, ◌++◌, IsTrue, slice_get};
+ghost use Rattle.sl_commands.specs.Verbs.{verb_name, verb_number, verbs};
+ghost use Rattle.sl_commands.specs.Controls.{control_name, is_in_range, can_be_set, default_of};
+ghost use Rattle.sl_commands.specs.Blocks.{Begun, blocks_of, place_of, save_of, may_follow, may_all_follow, IsSave};
+ghost use Rattle.sl_commands.specs.Entries.{are_stamped, may_be_next, IsStamped};
+
+use crate::block::Block;
+use crate::command::Target;
+use crate::control::Control;
+use crate::entry::Entry;
+use crate::settings::{Initial, Settings};
+use crate::verb::Verb;
+use sl_base::Name;
+
+/// A name is the name of one verb alone.
+pub fn verbs_differ_in_their_names(verb: Verb, other: Verb)
+    ensures { verb_name verb ≡ verb_name other → verb ≡ other }
+{}
+
+/// The verbs stand by their numbers in the list of all.
+pub fn verbs_stand_by_their_numbers(verb: Verb)
+    ensures { slice_get verbs (verb_number verb) ≡ Some verb }
+{}
+
+/// A name is the name of one control alone.
+pub fn controls_differ_in_their_names(control: Control, other: Control)
+    ensures { control_name control ≡ control_name other → control ≡ other }
+{}
+
+/// No value is in the range of a control that can't be set.
+pub fn only_what_can_be_set_has_a_range(control: Control, value: i32, loops: u8)
+    ensures { IsTrue (is_in_range control value loops) → IsTrue (can_be_set control) }
+{}
+
+/// What can be set begins in its range, where there is a loop.
+pub fn controls_begin_in_their_ranges(control: Control, loops: u8)
+    requires { 0 < loops }
+    ensures { IsTrue (can_be_set control) → IsTrue (is_in_range control (pos (default_of control)) loops) }
+{}
+
+/// Entries are stamped with one more where they are without it and it may be next.
+pub fn a_stamped_list_grows_at_its_end(entries: &[Entry], entry: &Entry)
+    ensures { are_stamped (entries.now ++ entry.now ∷ []) ≡ (are_stamped entries.now && may_be_next entries.now entry.now) }
+{}
+
+/// Entries are stamped where frames never fall and each sender's numbers are 0, 1, 2 and so on, and only there.
+pub fn stamped_entries_are_in_order(entries: &[Entry])
+    ensures found { IsTrue (are_stamped entries.now) → IsStamped entries.now }
+    ensures only { IsStamped entries.now → IsTrue (are_stamped entries.now) }
+{}
+
+/// The blocks of a save may come one after another, behind whole saves as many as its number.
+pub fn a_whole_save_may_follow(
+    sent: &[Block],
+    save: u32,
+    name: &Name,
+    target: Target,
+    settings: &Settings,
+    lists: &Initial,
+)
+    requires due { place_of sent.now ≡ Some (record { saves = save; begun = None }) }
+    requires save { IsSave target name.now (length settings.now.strips) lists.now }
+    ensures follow { (bound : ℕ) → save < bound → IsTrue (may_all_follow sent.now (blocks_of save name.now target settings.now lists.now) bound) }
+    ensures done { place_of (sent.now ++ blocks_of save name.now target settings.now lists.now)
+        ≡ Some (record { saves = save + 1; begun = None }) }
+{}
+
+/// Before a save has ended, no block of another may come.
+pub fn a_save_is_sent_to_its_end(sent: &[Block], block: &Block, bound: u32)
+    ensures { (save : ℕ) (begun : Begun) → place_of sent.now ≡ Some (record { saves = save; begun = Some begun })
+        → IsTrue (may_follow sent.now block.now bound) → save_of block.now ≡ save }
+{}
