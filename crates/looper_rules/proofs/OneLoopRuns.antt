@@ -47,6 +47,7 @@ due_none : (frame : ℕ) (es : List Entry) → FramesNeverFall (frame + 1) es �
 due_none frame [] order = refl
 due_none frame (e ∷ es) order = let after : frame < e.frame = (let h : frame + 1 ≤ e.frame = order.0 in omega arith) in rw (lt-leb e.frame frame after) refl
 
+-- they all come later
 later_all : (frame : ℕ) (es : List Entry) → FramesNeverFall (frame + 1) es → later frame es ≡ es
 later_all frame [] order = refl
 later_all frame (e ∷ es) order = let after : frame < e.frame = (let h : frame + 1 ≤ e.frame = order.0 in omega arith) in rw (lt-leb e.frame frame after) refl
@@ -187,9 +188,10 @@ module _ (rate chunks count : ℕ) (fits : count ≤ max_length) (room : max 1 (
   goes_from [] = λ number frame hits s within whole order left is. behind_all number frame hits s left is
   goes_from (x ∷ xs) = at_frame x xs (goes_from xs)
 
+-- where the journal records once, the looper's run is the single loop's
 pub single_run : (rate chunks : ℕ) (hits : List ℕ) (input : List Sound) → RecordsOnce hits → FitsInChunks chunks input → IsSingleRun hits input (run_of_hits rate chunks hits input)
-single_run rate chunks hits input are is =
-    let single = goes_from rate chunks (length input) is.count is.room input 0 0 hits Silent (le_of_eq (zero-add (length input))) is.frames are.order are.count tt in
+single_run rate chunks hits input once fits =
+    let single = goes_from rate chunks (length input) fits.count fits.room input 0 0 hits Silent (le_of_eq (zero-add (length input))) fits.frames once.order once.count tt in
     record { output = single.output; replies = single.replies; saves = single.saves; refused = single.refused }
 
 -- hits that record once are stamped
@@ -204,5 +206,6 @@ valid_from : (number : ℕ) (hits : List ℕ) → are_valid 1 (hits_from number 
 valid_from number [] = refl
 valid_from number (h ∷ hs) = valid_from (suc number) hs
 
+-- and so are those of a journal
 pub hits_are_valid : (hits : List ℕ) → are_valid 1 (hit_entries hits) ≡ true
 hits_are_valid hits = valid_from 0 hits

@@ -10,7 +10,7 @@ use Rattle.sl_base.specs.Sounds.{Sound, silence, IsFrame, scaled_sound}
 use Rattle.sl_commands.specs.declared.Mode.TheVariants.{Off, Recording, Playing}
 use Rattle.sl_commands.specs.declared.How.TheVariants.{Append}
 use Rattle.sl_commands.specs.declared.Verb.TheVariants.{Rec}
-use Rattle.sl_commands.specs.Settings.{max_length, default_settings, default_globals}
+use Rattle.sl_commands.specs.Settings.{max_length, default_globals}
 use Rattle.looper_rules.specs.Limits.{max_seams}
 use Rattle.looper_rules.specs.Layers.{Cell, Layer, fresh_cell, contents, content_of, unmarked, total_seams}
 use Rattle.looper_rules.specs.Stack.{Stack, LastWrite, empty_stack}
@@ -23,7 +23,6 @@ use Rattle.looper_rules.specs.Looper.{Looper, free_of, reach_of}
 use Rattle.looper_rules.specs.Frame.{Framed, framed}
 use Rattle.looper_rules.specs.LoopFrame.{heard, goes_on, after}
 use Rattle.looper_rules.specs.Entries.{applied}
-use Rattle.looper_rules.specs.Run.{start}
 use Rattle.looper_rules.specs.Worked.{stack, track, first_controls, entry, hit}
 use Rattle.looper_rules.specs.OneLoop.{OneLoop, idle, recording, playing, next_pos}
 use Rattle.looper_rules.specs.OneLoop as Single
@@ -93,10 +92,6 @@ abbrev pub looper_at : ℕ → ℕ → Stage → Looper
 looper_at rate chunks s =
     record { rate = rate; chunks = chunks; globals = default_globals; dry = 0; tracks = track (loop_at s) ∷ []; saves = 0 }
 
--- a run begins with a loop that is off
-pub start-silent : (rate chunks : ℕ) → start (default_settings rate 1) chunks [] ≡ looper_at rate chunks Silent
-start-silent rate chunks = refl
-
 -- the recording ended, by whether it has cells
 abbrev pub ended_at : List (Cell Sound) → ℕ → ℕ → Stage
 ended_at [] tape seams = Silent
@@ -115,7 +110,7 @@ after_at x (Records cells tape seams run) =
     Records (cells ++ fresh_cell x ∷ []) (tape + 1) (seams + (if is_some run then 0 else 2)) (Some (record { place = length cells; how = Append }))
 after_at x (Plays layer tape place) = Plays layer tape (next_pos (length layer.cells) place)
 
--- what holds of a recording behind so many frames: its tape is its length, its next write fits, and it has whole frames
+-- what holds of a recording behind so many frames: its tape is its length, its next write fits, and its list is of frames
 pub record IsRecording (frames : ℕ) (cells : List (Cell Sound)) (tape seams : ℕ) (run : Option LastWrite) : Type 0 where
   pub length_is : tape ≡ length cells
   pub within : tape ≤ frames
@@ -147,38 +142,42 @@ contents-unmarked : (cells : List (Cell Sound)) → contents (unmarked cells) �
 contents-unmarked [] = refl
 contents-unmarked (c ∷ cs) = ap (λ list. c.content ∷ list) (contents-unmarked cs)
 
--- a hit of `record` on the loop
+-- a recording closes as it ends
 ended-closes : (cells : List (Cell Sound)) (tape seams : ℕ) (run : Option LastWrite) → tape ≡ length cells → closed (loop_at (Records cells tape seams run)) ≡ loop_at (ended_at cells tape seams)
 ended-closes [] tape seams run is = rw is refl
 ended-closes (c ∷ cs) tape seams run is =
     let some : (length (c ∷ cs) == 0) ≡ false = ne_eqb (length (c ∷ cs)) 0 (λ e. omega arith) in
     ap (λ none. closed_recording none true (loop_at (Records (c ∷ cs) tape seams run))) some
 
+-- a hit of `record` on the loop
 given-record : (frames reach : ℕ) (s : Stage) → 1 ≤ hits_left s → 1 ≤ reach → IsReached frames s → given Rec reach (loop_at s) ≡ loop_at (hit_at s)
 given-record frames reach Silent left room is = rw (lt-ltb 0 reach room) refl
 given-record frames reach (Records cells tape seams run) left room is = ended-closes cells tape seams run is.length_is
 given-record frames reach (Plays layer tape place) left room is = absurd (omega arith)
 
--- a hit on the single loop
+-- the single loop's recording ends as that of the looper does
 ended-single : (cells : List (Cell Sound)) (tape seams : ℕ) → single (ended_at cells tape seams) ≡ Single.ended (contents cells)
 ended-single [] tape seams = refl
 ended-single (c ∷ cs) tape seams = ap (λ list. playing list 0) (contents-unmarked (c ∷ cs))
 
+-- a hit on the single loop
 pub hit-single : (s : Stage) → 1 ≤ hits_left s → single (hit_at s) ≡ Single.hit (single s)
 hit-single Silent left = refl
 hit-single (Records cells tape seams run) left = ended-single cells tape seams
 hit-single (Plays layer tape place) left = absurd (omega arith)
 
--- a hit leads to a stage that is reached, from which one hit less may come
+-- a recording of frames ends as a layer of frames
 ended_is_reached : (frames : ℕ) (cells : List (Cell Sound)) (tape seams : ℕ) → All IsFrame (contents cells) → IsReached frames (ended_at cells tape seams)
 ended_is_reached frames [] tape seams are = tt
 ended_is_reached frames (c ∷ cs) tape seams are = subst (All IsFrame) (sym (contents-unmarked (c ∷ cs))) are
 
+-- a hit leads to a stage that is reached
 pub hit_is_reached : (frames : ℕ) (s : Stage) → IsReached frames s → IsReached frames (hit_at s)
 hit_is_reached frames Silent is = record { length_is = refl; within = omega arith; seams_fit = refl; whole = All-nil IsFrame }
 hit_is_reached frames (Records cells tape seams run) is = ended_is_reached frames cells tape seams is.whole
 hit_is_reached frames (Plays layer tape place) is = is
 
+-- from it one hit less may come
 pub one_hit_less : (s : Stage) → hits_left s ≤ suc (hits_left (hit_at s))
 one_hit_less Silent = omega arith
 one_hit_less (Records cells tape seams run) = omega arith
@@ -198,12 +197,13 @@ room_for_one reach tape fits = go (tape % 4096 == 0) refl
     go false is = refl
     go true is = let none : tape % 4096 ≡ 0 = eqb-true (tape % 4096) 0 is in lt-ltb (chunks_of tape) reach (omega arith)
 
--- the loop after a frame
+-- the loop that plays goes on, whether it wraps around or not
 played_on : (layer : Layer Sound) (tape place : ℕ) (wraps : Bool) →
     goes_on wraps (loop_at (Plays layer tape place)) ≡ loop_at (Plays layer tape (if wraps then 0 else place + 1))
 played_on layer tape place true = refl
 played_on layer tape place false = refl
 
+-- the loop after a frame
 pub after-loop : (frames reach : ℕ) (x : Sound) (s : Stage) → frames < max_length → chunks_of (frames + 1) ≤ reach → IsReached frames s → after x reach (loop_at s) ≡ loop_at (after_at x s)
 after-loop frames reach x Silent short room is = refl
 after-loop frames reach x (Records cells tape seams run) short room is =
@@ -239,14 +239,16 @@ heard-loop Silent = refl
 heard-loop (Records cells tape seams run) = refl
 heard-loop (Plays layer tape place) = refl
 
--- silence is a whole frame, and so is what is read of a list of whole frames
+-- silence is a frame
 silence_is_whole : IsFrame silence
 silence_is_whole = omega (arith, ints)
 
+-- and so is what is read of a list of frames
 read_is_whole : (list : List Sound) (place : ℕ) → All IsFrame list → IsFrame (slice_index_or list place silence)
 read_is_whole list place whole =
     ⊎_elim (λ inside. whole place silence inside) (λ past. rw (get_or_past list place silence past) silence_is_whole) (cases_lt place (length list))
 
+-- and what is heard
 heard_is_whole : (frames : ℕ) (s : Stage) → IsReached frames s → IsFrame (Single.heard (single s))
 heard_is_whole frames Silent is = silence_is_whole
 heard_is_whole frames (Records cells tape seams run) is = silence_is_whole
@@ -264,6 +266,7 @@ applied-record frames frame at number rate chunks s left some is =
 abbrev framed_as : ℕ → ℕ → Sound → Sound → Loop Sound → Framed
 framed_as rate chunks x y l = record { output = output_of x 0 (scaled_sound y 1000 ∷ []); looper = record (looper_at rate chunks Silent) { tracks = track l ∷ [] } }
 
+-- a frame at a stage
 framed-stage : (frame rate chunks : ℕ) (x : Sound) (s : Stage) → framed frame x (looper_at rate chunks s) ≡ framed_as rate chunks x (heard (loop_at s)) (after x (reach_at chunks s) (loop_at s))
 framed-stage frame rate chunks x Silent = refl
 framed-stage frame rate chunks x (Records cells tape seams run) = refl
