@@ -22,3 +22,4 @@ pub mod Run
 pub mod States
 pub mod Worked
 pub mod OneLoop
+pub mod SingleRun

@@ -1,0 +1,2 @@
+pub mod OneLoopRuns
+pub mod OneLoopStages
