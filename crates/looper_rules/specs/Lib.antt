@@ -20,6 +20,7 @@ pub mod Entries
 pub mod Frame
 pub mod Run
 pub mod States
+pub mod Reached
 pub mod Worked
 pub mod OneLoop
 pub mod SingleRun

@@ -14,6 +14,7 @@
 
 mod one_loop;
 mod one_loop_law;
+pub mod reached;
 mod runs_of_controls;
 mod runs_of_lengths;
 mod runs_of_loops;
