@@ -14,4 +14,7 @@ mod words;
 pub use first_journal::{Hits, read_first_journal};
 pub use status::{FileFault, Status};
 pub use top::plain_run;
-pub use words::{Render, WordsFault, words_of};
+pub use words::{Render, Words, WordsFault, words_of};
+
+#[cfg(test)]
+mod tests;

@@ -6,7 +6,8 @@ ghost use Rattle.std.specs.String.{string_bytes};
 ghost use Rattle.sl_ports.specs.Faults.{Rose};
 ghost use Rattle.sl_ports.specs.Texts.{Tells, AppendsPrefix};
 ghost use Rattle.looper_cli.specs.Console.{words_text, read_fault_text};
-ghost use Rattle.looper_cli.specs.Endings.{Renders, NamesBad, IsFirstBad, FailsToWrite};
+ghost use Rattle.looper_cli.specs.Named.{names_of_words};
+ghost use Rattle.looper_cli.specs.Endings.{Around, Ends, Renders, NamesBad, IsFirstBad, FailsToWrite};
 ghost use Rattle.looper_cli.specs.Statuses.{IsStatusNumber};
 ghost use Rattle.looper_cli.specs.Words.{names_in};
 ghost use Rattle.looper_cli.specs.declared.status.FileFault.{FileFault};
@@ -14,9 +15,34 @@ ghost use Rattle.looper_cli.specs.declared.status.FileFault.{FileFault};
 use crate::console::tell;
 use crate::render::render;
 use crate::status::Status;
-use crate::words::words_of;
+use crate::words::{Words, words_of};
 use sl_ports::{Keeper, Sink};
 use std::alloc::Global;
+
+/// Does what the words ask for.
+fn run_words<P: Keeper, C: Sink>(
+    alloc: Global,
+    words: &Words,
+    keeper: &mut P,
+    console: &mut C,
+) -> Status
+    ensures { Ends (names_of_words words.now) (record {
+      reads_before = P.read_faults keeper.old;
+      reads = P.read_faults keeper.new;
+      writes_before = P.write_faults keeper.old;
+      writes = P.write_faults keeper.new;
+      files_before = P.files keeper.old;
+      files = P.files keeper.new;
+      faults_before = C.faults console.old;
+      faults = C.faults console.new;
+      text_before = C.held console.old;
+      text = C.held console.new;
+    }) result }
+{
+    match words {
+        Words::Render(files) => render(alloc, files, keeper, console),
+    }
+}
 
 /// Runs the words, over files and a console, and gives the exit status.
 ///
@@ -67,7 +93,7 @@ pub fn plain_run<P: Keeper, C: Sink>(
     ensures unchanged { (result ≡ 2) ⊎ (result ≡ 3) ⊎ (result ≡ 4) ⊎ (result ≡ 8) → P.files keeper.new ≡ P.files keeper.old }
 {
     match words_of(words) {
-        Ok(files) => render(alloc, &files, keeper, console).number(),
+        Ok(words) => run_words(alloc, &words, keeper, console).number(),
         Err(_) => {
             tell(console, b"status 2\n");
             Status::Words.number()
