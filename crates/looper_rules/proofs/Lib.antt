@@ -1,3 +1,5 @@
+pub mod OneLoopRuns
+pub mod OneLoopStages
 pub mod KeptDecks
 pub mod KeptLayers
 pub mod KeptOpening

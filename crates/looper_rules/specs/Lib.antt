@@ -23,3 +23,4 @@ pub mod States
 pub mod Reached
 pub mod Worked
 pub mod OneLoop
+pub mod SingleRun

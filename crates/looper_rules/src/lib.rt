@@ -6,12 +6,14 @@
 //!   do to it, `specs/Run` what a whole run gives: output, replies, saves and the last looper.
 //! - `specs/States` has what holds of every loop and looper that a run reaches.
 //! - `specs/OneLoop` has the single loop that `render` plays: it records between two hits and then repeats.
+//!   `specs/SingleRun` says where it is a looper of one loop.
 //!
 //! Begin with `specs/Layers` and follow the order of `specs/Lib`; the functions here are worked runs and laws, whose
 //! clauses compute or are proved from the definitions. The rules are docs/rules.md, under the same headings.
 #![tactic(auto)]
 
 mod one_loop;
+mod one_loop_law;
 pub mod reached;
 mod runs_of_controls;
 mod runs_of_lengths;
@@ -19,6 +21,9 @@ mod runs_of_loops;
 mod runs_of_one_loop;
 
 pub use one_loop::OneMode;
+pub use one_loop_law::{
+    hits_that_record_once_are_a_journal, the_single_loop_is_a_looper_of_one_loop,
+};
 pub use runs_of_controls::{
     a_gain_moves_by_steps, a_long_press_ends_its_overdub, a_recording_waits_for_its_threshold,
     a_short_press_leaves_its_overdub_on, the_dry_gain_moves_by_steps,
