@@ -24,5 +24,7 @@ pub mod Places
 pub mod Questions
 pub mod Pins
 pub mod States
+pub mod Reached
 pub mod Worked
 pub mod OneLoop
+pub mod SingleRun

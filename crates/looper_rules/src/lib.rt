@@ -4,8 +4,11 @@
 //!   verbs, presses and frames do to it, `specs/Values` what is read of it.
 //! - A looper is its loops with their gains, saves and chunks. `specs/Looper` to `specs/Frame` say what entries and frames
 //!   do to it, `specs/Run` what a whole run gives: output, replies, saves and the last looper.
-//! - `specs/States` has what holds of every loop and looper that a run reaches.
+//! - `specs/Cuts` to `specs/Pins` have what the laws of runs speak of: the parts of a run, an entry's place in it, what is
+//!   asked and answered, and what holds a list that is saved.
+//! - `specs/States` has what holds of every loop and looper that a run reaches, `specs/Reached` what makes it last.
 //! - `specs/OneLoop` has the single loop that `render` plays: it records between two hits and then repeats.
+//!   `specs/SingleRun` says where it is a looper of one loop.
 //!
 //! Begin with `specs/Layers` and follow the order of `specs/Lib`; the functions here are worked runs and laws, whose
 //! clauses compute or are proved from the definitions. The rules are docs/rules.md, under the same headings.
@@ -13,6 +16,8 @@
 
 mod cut_runs;
 mod one_loop;
+mod one_loop_law;
+mod reached;
 mod replies;
 mod runs_of_controls;
 mod runs_of_lengths;
@@ -26,6 +31,15 @@ pub use cut_runs::{
     entries_to_come_change_nothing_before,
 };
 pub use one_loop::OneMode;
+pub use one_loop_law::{
+    hits_that_record_once_are_a_journal, the_single_loop_is_a_looper_of_one_loop,
+};
+pub use reached::{
+    a_closing_keeps_the_loop, a_frame_keeps_the_loop, a_frame_keeps_the_looper,
+    a_kept_loop_is_a_loop, a_kept_looper_is_a_looper, a_run_begins_with_a_looper,
+    a_verb_keeps_the_loop, an_entry_keeps_the_looper, an_opening_keeps_the_loop,
+    each_state_of_a_run_is_a_looper,
+};
 pub use replies::{
     a_frame_comes_out_for_each_that_goes_in, a_get_or_a_save_is_answered_once,
     each_reply_answers_a_get_or_a_save_before_it, gets_are_answered_in_their_order,
