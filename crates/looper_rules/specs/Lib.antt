@@ -22,3 +22,6 @@ pub mod Run
 pub mod States
 pub mod Worked
 pub mod OneLoop
+pub mod OtherLayers
+pub mod Undoing
+pub mod Sharing

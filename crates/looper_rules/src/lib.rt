@@ -16,6 +16,7 @@ mod runs_of_controls;
 mod runs_of_lengths;
 mod runs_of_loops;
 mod runs_of_one_loop;
+mod undoing;
 
 pub use one_loop::OneMode;
 pub use runs_of_controls::{
@@ -34,4 +35,7 @@ pub use runs_of_one_loop::{
     a_loud_negative_overdub_is_clamped, a_loud_overdub_is_clamped,
     a_recording_of_length_0_is_no_layer, a_recording_repeats, an_overdub_goes_backward,
     undo_and_redo_go_between_two_lists, undo_takes_back_half_an_overdub,
+};
+pub use undoing::{
+    redo_gives_back_the_layer_that_undo_moved, undo_gives_back_the_list_before_an_opening,
 };

@@ -1,0 +1,5 @@
+pub mod StackChanges
+pub mod StackSteps
+pub mod LoopChanges
+pub mod FrameChanges
+pub mod UndoLemmas
