@@ -1,21 +1,20 @@
 -- What one frame does to the layers of a loop that aren't the current one, and that it stays in reach.
-use Rattle.std.proofs.Common.{◌≡◌, ◌⊎◌, ℕ, suc, ◌+◌, ◌≤◌, ◌<◌, Bool, true, false, ◌&&◌, ◌||◌, not, List, [], ◌∷◌, ◌++◌, length, Option, Some, None, refl, sym, ap, ◌∙◌, subst, arith, nat_le, nat_lt, eqb, cond, inl, inr}
-use Rattle.std.specs.Prelude.{⊤, ◌==◌}
-use Rattle.std.proofs.lemmas.Bool.{cond_both}
+use Rattle.std.proofs.Common.{◌≡◌, ℕ, ◌+◌, Bool, true, false, [], refl, sym, ◌∙◌, subst, nat_le, cond}
+use Rattle.std.specs.Prelude.{◌==◌}
 use Rattle.sl_base.specs.Sounds.{Sound, loudness}
 use Rattle.sl_commands.specs.declared.Mode.{Mode}
-use Rattle.sl_commands.specs.declared.Mode.TheVariants.{Off, WaitStart, Recording, Playing, Overdubbing, Multiplying, Inserting, Replacing, Muted, OneShot, Substituting, Paused}
+use Rattle.sl_commands.specs.declared.Mode.TheVariants.{Off, WaitStart, Recording, Multiplying, Inserting, OneShot, Paused}
 use Rattle.sl_commands.specs.declared.How.TheVariants.{Append}
 use Rattle.sl_commands.specs.declared.Started.{Started}
-use Rattle.sl_commands.specs.declared.Started.TheVariants.{Ok, Layers, Seams, Room}
-use Rattle.looper_rules.specs.Layers.{Layer, without_current, current_list}
-use Rattle.looper_rules.specs.Stack.{Stack, run_broken}
-use Rattle.looper_rules.specs.Opening.{opening_tape, opening, opened}
-use Rattle.looper_rules.specs.Writing.{write_fits, written, extension_fits, extended}
+use Rattle.sl_commands.specs.declared.Started.TheVariants.{Ok}
+use Rattle.looper_rules.specs.Layers.{current_list}
+use Rattle.looper_rules.specs.Stack.{Stack}
+use Rattle.looper_rules.specs.Opening.{opening_tape, opening}
+use Rattle.looper_rules.specs.Writing.{extension_fits, extended}
 use Rattle.looper_rules.specs.Loop.{Loop, is_writing, length_of, at_place, refused_once, with_stack}
 use Rattle.looper_rules.specs.Closing.{closed, at_stop}
 use Rattle.looper_rules.specs.Starting.{records, leaves_wait}
-use Rattle.looper_rules.specs.LoopFrame.{awake_in, wakes_as, stopped, extends, ready_in, ready, sound_at, new_frame, how_in, fits, with_input, wraps, wrapped_mode, goes_on, stops_if, lengthens, advanced_in, advanced, overrun_in, writes, passes, after}
+use Rattle.looper_rules.specs.LoopFrame.{awake_in, wakes_as, stopped, extends, ready_in, sound_at, new_frame, how_in, fits, with_input, wraps, wrapped_mode, goes_on, stops_if, lengthens, advanced_in, overrun_in, writes, passes, after}
 use Rattle.looper_rules.specs.Undoing.{frame_later}
 use Rattle.looper_rules.proofs.StackChanges.{IsSame, IsTouched, IsSettled, IsDone, same, same_touched, touched_on, settled_same, touched_settled, touched_then_settled, settled_done}
 use Rattle.looper_rules.proofs.StackSteps.{run_broken_same, extended_touched, written_touched, first_frame_fits, opened_then_touched, room_for_one, opening_tests, opened_in_reach}

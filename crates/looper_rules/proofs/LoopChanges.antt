@@ -1,22 +1,22 @@
 -- What closing, verbs and frames do to the layers of a loop that aren't the current one, and that they stay in reach.
-use Rattle.std.proofs.Common.{◌≡◌, ◌⊎◌, ℕ, suc, ◌+◌, ◌-◌, ◌/◌, ◌%◌, ◌≤◌, ◌<◌, min, max, Bool, true, false, ◌&&◌, ◌||◌, not, List, [], ◌∷◌, ◌++◌, length, Option, Some, None, refl, sym, ap, ◌∙◌, subst, arith, nat_le, nat_lt, eqb, ltb, leb-true, ltb-true, is_some, cond, inl, inr}
-use Rattle.std.specs.Prelude.{⊤, ◌==◌}
+use Rattle.std.proofs.Common.{◌≡◌, ℕ, Bool, true, false, ◌||◌, List, [], ◌∷◌, length, None, refl, sym, ap, subst, nat_le, nat_lt, cond}
+use Rattle.std.specs.Prelude.{◌==◌}
 use Rattle.std.proofs.lemmas.Bool.{cond_both}
 use Rattle.sl_commands.specs.declared.Verb.{Verb}
 use Rattle.sl_commands.specs.declared.Verb.TheVariants.{Rec, Overdub, Multiply, Insert, Replace, Substitute, Mute, MuteOn, MuteOff, OneShot, Trigger, Reverse, Pause, Undo, Redo, UndoAll, RedoAll}
 use Rattle.sl_commands.specs.declared.Mode.{Mode}
 use Rattle.sl_commands.specs.declared.Mode.TheVariants.{Off, WaitStart, Recording, Playing, Overdubbing, Multiplying, Inserting, Replacing, Muted, OneShot as PlayingOnce, Substituting, Paused}
 use Rattle.sl_commands.specs.declared.Started.{Started}
-use Rattle.sl_commands.specs.declared.Started.TheVariants.{Ok, Layers, Seams, Room}
+use Rattle.sl_commands.specs.declared.Started.TheVariants.{Ok}
 use Rattle.looper_rules.specs.Layers.{Layer}
-use Rattle.looper_rules.specs.Stack.{Stack, run_broken}
-use Rattle.looper_rules.specs.Opening.{opening, opened}
-use Rattle.looper_rules.specs.Loop.{Loop, is_off, is_writing, length_of, base_length_of, in_mode, turned, rounds, refused_once, with_stack}
-use Rattle.looper_rules.specs.Closing.{closed_recording, multiply_cut, finished, closed_from, closed, at_stop}
+use Rattle.looper_rules.specs.Stack.{Stack}
+use Rattle.looper_rules.specs.Opening.{opening}
+use Rattle.looper_rules.specs.Loop.{Loop, is_writing, length_of, base_length_of, in_mode, turned, rounds, with_stack}
+use Rattle.looper_rules.specs.Closing.{closed_recording, multiply_cut, closed_from, closed, at_stop}
 use Rattle.looper_rules.specs.Starting.{records, starts_record, layers_on, starts, leaves_wait}
-use Rattle.looper_rules.specs.History.{undone, redone, closed_if, settled, within_list, with_fewer, stepped_back, undo, with_more, redo_from, redo, undo_each, undo_all, redo_each, redo_all}
-use Rattle.looper_rules.specs.Verbs.{Column, InOff, InItsOwn, InAnother, Elsewhere, column, unless_off, closes_then, plays_from_start, mute_toggled, unmuted, pause_toggled, ends, reversed_in, record_row, layer_row, length_row, mute_row, mute_on_row, mute_off_row, pause_row, start_row, reverse_row, row, acts_in, acts_waiting, acts_from, acts}
-use Rattle.looper_rules.proofs.StackChanges.{IsSame, IsTouched, IsSettled, IsMoved, IsDone, same, same_touched, touched_on, settled_same, touched_settled, touched_then_settled, moved_on, settled_then_moved, moved_itself, settled_done}
+use Rattle.looper_rules.specs.History.{undone, redone, closed_if, settled, with_fewer, stepped_back, undo, with_more, redo_from, redo, undo_each, redo_each}
+use Rattle.looper_rules.specs.Verbs.{Column, InOff, InItsOwn, InAnother, Elsewhere, column, unless_off, closes_then, plays_from_start, ends, reversed_in, record_row, layer_row, length_row, mute_row, mute_on_row, mute_off_row, pause_row, start_row, reverse_row, row, acts_waiting, acts_from, acts}
+use Rattle.looper_rules.proofs.StackChanges.{IsSame, IsSettled, IsMoved, IsDone, same, same_touched, touched_settled, moved_on, settled_then_moved, moved_itself, settled_done}
 use Rattle.looper_rules.proofs.StackSteps.{run_broken_same, finished_touched, dropped_settled, undone_moved, redone_moved, settled_then_opened}
 
 -- the loop in this mode
@@ -144,7 +144,7 @@ unless_off_done _ act l h k = k
 closes_then_done : {A : Type 0} {reach : ℕ} (act : Loop A → Loop A) (l : Loop A) → IsDone reach l.stack (act (closed l)).stack → IsDone reach l.stack (closes_then act l).stack
 closes_then_done act l h = unless_off_done (closed l).deck.mode act (closed l) (closed_settled l) h
 
-nothing_done : {A : Type 0} {reach : ℕ} {s : Stack A} → IsDone reach s s
+pub nothing_done : {A : Type 0} {reach : ℕ} {s : Stack A} → IsDone reach s s
 nothing_done = same_done same
 
 closed_done : {A : Type 0} {reach : ℕ} (l : Loop A) → IsDone reach l.stack (closed l).stack

@@ -1,12 +1,10 @@
 -- What changes of a stack do to its layers, and that they keep to the chunks in reach.
-use Rattle.std.proofs.Common.{◌≡◌, ℕ, ◌+◌, ◌-◌, ◌/◌, ◌%◌, ◌≤◌, ◌<◌, min, max, Bool, true, false, List, [], ◌∷◌, ◌++◌, length, Option, Some, None, refl, sym, ap, ◌∙◌, subst, arith, nat_le, nat_lt, eqb, ltb, leb-true, ltb-true, is_some, cond, inl, inr}
-use Rattle.std.specs.Prelude.{⊤}
-use Rattle.std.specs.List.{AllByRecursion}
-use Rattle.looper_rules.specs.Layers.{Layer, with_current, without_current}
+use Rattle.std.proofs.Common.{◌≡◌, ℕ, ◌≤◌, min, List, [], ◌∷◌, ◌++◌, length, refl, ap, ◌∙◌, arith, inl}
+use Rattle.looper_rules.specs.Layers.{Layer, without_current}
 use Rattle.looper_rules.specs.Stack.{Stack}
 use Rattle.looper_rules.specs.Room.{chunks_of}
-use Rattle.looper_rules.specs.OtherLayers.{in_a_row, row_of, RowStays, StaysBelowNew, OthersStay}
-use Rattle.looper_rules.specs.Sharing.{EndWithin, KeepsToTape, KeepsToReach}
+use Rattle.looper_rules.specs.OtherLayers.{in_a_row, row_of, OthersStay}
+use Rattle.looper_rules.specs.Sharing.{KeepsToReach}
 
 -- what holds within reach of one stack holds of the other
 abbrev pub Reaches : {A : Type 0} → ℕ → Stack A → Stack A → Type 0

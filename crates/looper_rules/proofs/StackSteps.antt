@@ -1,26 +1,22 @@
 -- Each single change of a stack: what it does to the layers, and that it keeps to the chunks in reach.
-use Rattle.std.proofs.Common.{◌≡◌, ◌⊎◌, ℕ, suc, ◌+◌, ◌-◌, ◌/◌, ◌%◌, ◌≤◌, ◌<◌, min, max, Bool, true, false, ◌&&◌, ◌||◌, not, List, [], ◌∷◌, ◌++◌, length, Option, Some, None, refl, sym, ap, ◌∙◌, subst, arith, nat_le, nat_lt, eqb, ltb, leb-true, ltb-true, is_some, cond, inl, inr}
-use Rattle.std.specs.Prelude.{⊤, ◌==◌}
-use Rattle.std.specs.List.{AllByRecursion}
-use Rattle.std.proofs.lemmas.Bool.{cond_both, ltb-false, le-leb, and_parts}
+use Rattle.std.proofs.Common.{◌≡◌, ℕ, suc, ◌+◌, ◌-◌, ◌≤◌, Bool, true, false, ◌&&◌, ◌||◌, List, [], ◌∷◌, length, Option, None, refl, ap, ◌∙◌, arith, nat_le, nat_lt, is_some, cond, inr}
+use Rattle.std.proofs.lemmas.Bool.{ltb-false, le-leb, and_parts}
 use Rattle.std.proofs.lemmas.Bool.Decides.{nat_tests}
 use Rattle.std.proofs.lemmas.List.Sums.{sum_by-cons}
 use Rattle.sl_commands.specs.declared.How.{How}
-use Rattle.sl_commands.specs.declared.How.TheVariants.{Forward, Backward, Insert, Append}
-use Rattle.sl_commands.specs.declared.Started.{Started}
-use Rattle.sl_commands.specs.declared.Started.TheVariants.{Ok, Layers, Seams, Room}
-use Rattle.looper_rules.specs.Limits.{max_layers, max_seams, chunk_frames}
+use Rattle.sl_commands.specs.declared.How.TheVariants.{Append}
+use Rattle.sl_commands.specs.declared.Started.TheVariants.{Ok}
+use Rattle.looper_rules.specs.Limits.{max_layers, max_seams}
 use Rattle.looper_rules.specs.Layers.{Layer, seams_of, total_seams, with_current, without_current, current_end}
-use Rattle.looper_rules.specs.Stack.{Stack, LastWrite, pinned_tape, run_broken}
+use Rattle.looper_rules.specs.Stack.{Stack, LastWrite, run_broken}
 use Rattle.looper_rules.specs.Room.{chunks_of, has_room}
 use Rattle.looper_rules.specs.Opening.{opening_tape, opening_seams, first_refusal, opening, empty_layer, new_layer, opened}
 use Rattle.looper_rules.specs.Writing.{meets_fresh, new_cell_fits, write_fits, with_written, rewritten, newly_written, written, with_base, extended}
 use Rattle.looper_rules.specs.Closing.{finished_layer, finished, dropped}
 use Rattle.looper_rules.specs.History.{undone_from, undone, redone_from, redone}
 use Rattle.looper_rules.specs.Saves.{pinned, unpinned, unmarked_layer}
-use Rattle.looper_rules.specs.OtherLayers.{in_a_row, row_of, RowStays, StaysBelowNew, OthersStay}
-use Rattle.looper_rules.specs.Sharing.{EndWithin, KeepsToTape, KeepsToReach}
-use Rattle.looper_rules.proofs.StackChanges.{Reaches, IsSame, IsTouched, IsSettled, IsMoved, IsDone, first_of, first_of-count, first_of-split}
+use Rattle.looper_rules.specs.Sharing.{EndWithin, KeepsToReach}
+use Rattle.looper_rules.proofs.StackChanges.{IsSame, IsTouched, IsSettled, IsMoved, IsDone, first_of, first_of-count, first_of-split}
 
 -- the current layer changed leaves those below, and their number
 below-with_current : {A : Type 0} (f : Layer A → Layer A) (layers : List (Layer A)) → without_current (with_current f layers) ≡ without_current layers

@@ -1,20 +1,17 @@
 -- Undo gives back the layers below an open one, and redo gives back what undo moved.
-use Rattle.std.proofs.Common.{◌≡◌, ℕ, suc, ◌+◌, ◌≤◌, ◌<◌, Bool, true, false, IsTrue, List, [], ◌∷◌, length, Option, Some, None, refl, sym, ap, ◌∙◌, subst, arith, nat_le, nat_lt, eqb, cond}
+use Rattle.std.proofs.Common.{◌≡◌, ℕ, ◌≤◌, Bool, true, false, List, [], ◌∷◌, length, Option, None, refl, sym, ap, ◌∙◌, subst, arith, nat_le}
 use Rattle.std.specs.Prelude.{◌==◌}
 use Rattle.std.proofs.lemmas.Bool.{ne_eqb}
 use Rattle.sl_base.specs.Sounds.{Sound}
 use Rattle.sl_commands.specs.declared.Mode.{Mode}
-use Rattle.sl_commands.specs.declared.Mode.TheVariants.{Off, WaitStart, Recording, Playing, Overdubbing, Multiplying, Inserting, Replacing, Muted, OneShot, Substituting, Paused}
-use Rattle.sl_commands.specs.declared.Started.TheVariants.{Ok}
+use Rattle.sl_commands.specs.declared.Mode.TheVariants.{Recording, Multiplying}
 use Rattle.looper_rules.specs.Layers.{Cell, Layer, contents, old_cells, unmarked, with_current, without_current, current_length}
 use Rattle.looper_rules.specs.Stack.{Stack}
 use Rattle.looper_rules.specs.Loop.{Loop, is_writing, length_of, base_length_of, with_stack}
-use Rattle.looper_rules.specs.Closing.{cut_cells, finished_layer, closed_recording, multiply_cut, closed_from, closed}
-use Rattle.looper_rules.specs.Starting.{records, layers_on}
-use Rattle.looper_rules.specs.History.{undone_from, undone, redone_from, redone, closed_if, settled, stepped_back, undo, redo_from, redo}
-use Rattle.looper_rules.specs.LoopFrame.{ready, after}
+use Rattle.looper_rules.specs.Closing.{cut_cells, finished_layer, closed_recording, multiply_cut, closed_from}
+use Rattle.looper_rules.specs.History.{undone_from, redone_from, redone, closed_if, settled, undo, redo_from, redo}
 use Rattle.looper_rules.specs.Saves.{pinned}
-use Rattle.looper_rules.specs.Undoing.{frame_later, IsOpenedFrom, for_record, for_mode, StaysOpen, at_once, through_frame, through_save, aside, IsClosedOn, StandsClosed}
+use Rattle.looper_rules.specs.Undoing.{IsOpenedFrom, for_record, for_mode, StaysOpen, at_once, through_frame, through_save, aside, StandsClosed}
 use Rattle.looper_rules.proofs.StackChanges.{IsTouched}
 use Rattle.looper_rules.proofs.StackSteps.{finished_touched, pinned_touched}
 use Rattle.looper_rules.proofs.LoopChanges.{with_more_stack, stepped_back_stack}

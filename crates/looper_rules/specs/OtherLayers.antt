@@ -3,9 +3,7 @@
 -- and those below it. Undo and redo go along this row. Closing an empty Recording takes the current layer out of it.
 -- An opening puts a new layer on the current one, and drops the redo layers, all of them.
 -- "Layers" and "History: undo and redo" in docs/rules.md.
-use Rattle.std.specs.Prelude.{◌≡◌, ◌⊎◌, ℕ, ◌+◌, ◌≤◌, min, ⊤, Bool, true, false, List, [], ◌∷◌, ◌++◌, length}
-use Rattle.sl_commands.specs.declared.Started.{Started}
-use Rattle.sl_commands.specs.declared.Started.TheVariants.{Ok}
+use Rattle.std.specs.Prelude.{◌≡◌, ◌⊎◌, ◌+◌, ◌≤◌, min, ⊤, List, [], ◌∷◌, ◌++◌, length}
 use Rattle.looper_rules.specs.Limits.{max_value}
 use Rattle.looper_rules.specs.Layers.{Layer, without_current}
 use Rattle.looper_rules.specs.Stack.{Stack}

@@ -27,10 +27,10 @@ pub data IsOpenedFrom (before : Loop Sound) : Loop Sound → Type 0 where
 pub data StaysOpen (first : Loop Sound) : Loop Sound → Type 0 where
   at_once : StaysOpen first first
   through_frame : (x : Sound) → (reach : ℕ) → (now : Loop Sound) → StaysOpen first now →
-    IsTrue (is_writing (frame_later x reach now).deck.mode) → StaysOpen first (frame_later x reach now)
+      IsTrue (is_writing (frame_later x reach now).deck.mode) → StaysOpen first (frame_later x reach now)
   through_save : (now : Loop Sound) → StaysOpen first now → StaysOpen first (with_stack (pinned now.stack) now)
   aside : (now next : Loop Sound) → StaysOpen first now →
-    next.deck.mode ≡ now.deck.mode → next.stack.layers ≡ now.stack.layers → StaysOpen first next
+      next.deck.mode ≡ now.deck.mode → next.stack.layers ≡ now.stack.layers → StaysOpen first next
 
 -- a layer that was open, closed on a tape of this length
 pub record IsClosedOn (tape : ℕ) (was now : Layer Sound) : Type 0 where

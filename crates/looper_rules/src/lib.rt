@@ -12,13 +12,18 @@
 #![tactic(auto)]
 
 mod one_loop;
+mod other_layers;
 mod runs_of_controls;
 mod runs_of_lengths;
 mod runs_of_loops;
 mod runs_of_one_loop;
+mod shared_room;
 mod undoing;
 
 pub use one_loop::OneMode;
+pub use other_layers::{
+    a_get_changes_nothing, a_refused_opening_is_counted_alone, only_the_current_layer_changes,
+};
 pub use runs_of_controls::{
     a_gain_moves_by_steps, a_long_press_ends_its_overdub, a_recording_waits_for_its_threshold,
     a_short_press_leaves_its_overdub_on, the_dry_gain_moves_by_steps,
@@ -35,6 +40,10 @@ pub use runs_of_one_loop::{
     a_loud_negative_overdub_is_clamped, a_loud_overdub_is_clamped,
     a_recording_of_length_0_is_no_layer, a_recording_repeats, an_overdub_goes_backward,
     undo_and_redo_go_between_two_lists, undo_takes_back_half_an_overdub,
+};
+pub use shared_room::{
+    a_reached_looper_shares_its_chunks, the_room_that_passes_on_is_what_the_others_leave,
+    what_is_done_to_a_loop_stays_in_reach,
 };
 pub use undoing::{
     redo_gives_back_the_layer_that_undo_moved, undo_gives_back_the_list_before_an_opening,

@@ -1,0 +1,49 @@
+//! Loops share the chunks: each reaches what all the others leave, as they stand at that moment.
+
+ghost use Rattle.std.specs.Prelude.{◌≡◌, ℕ, ℤ, List, []};
+ghost use Rattle.sl_base.specs.Sounds.{Sound};
+ghost use Rattle.sl_commands.specs.declared.Verb.{Verb};
+ghost use Rattle.sl_commands.specs.declared.Control.{Control};
+ghost use Rattle.sl_commands.specs.declared.Target.{Target};
+ghost use Rattle.sl_commands.specs.declared.Globals.{Globals};
+ghost use Rattle.sl_commands.specs.declared.Face.{Face};
+ghost use Rattle.looper_rules.specs.Room.{has_room};
+ghost use Rattle.looper_rules.specs.Loop.{Loop};
+ghost use Rattle.looper_rules.specs.Presses.{given, pressed, released};
+ghost use Rattle.looper_rules.specs.LoopFrame.{ready, after};
+ghost use Rattle.looper_rules.specs.Looper.{Track, Looper, faces_of, itself, on_loop, on_target};
+ghost use Rattle.looper_rules.specs.Entries.{sets};
+ghost use Rattle.looper_rules.specs.Frame.{at_boundary, at_boundaries, played, played_on, all_played};
+ghost use Rattle.looper_rules.specs.States.{IsLooper};
+ghost use Rattle.looper_rules.specs.Sharing.{has_room_among, left_by, in_turn, in_turn_at, SharesChunks, StaysInReach};
+
+/// The room that passes on from loop to loop is the written test on what all loops use, those before in the order of the
+/// index as they stand by then, and those behind as they still are.
+pub fn the_room_that_passes_on_is_what_the_others_leave()
+    ensures room { (chunks tape : ℕ) → (before behind : List Track) →
+        has_room (left_by chunks before behind) tape ≡ has_room_among chunks before tape behind }
+    ensures commands { (target : Target) → (act : ℕ → Loop Sound → Loop Sound) → (l : Looper) → StaysInReach act → SharesChunks l →
+        (on_target target act l).tracks
+        ≡ in_turn_at target l.globals.selected_loop_num (λ before t behind. on_loop act (left_by l.chunks before behind) t) l.tracks }
+    ensures boundaries { (frame : ℕ) → (l : Looper) → SharesChunks l →
+        let act = at_boundary l.globals frame (faces_of l) in
+        (at_boundaries frame l).tracks ≡ in_turn itself (λ before t behind. on_loop act (left_by l.chunks before behind) t) [] l.tracks }
+    ensures frames { (x : Sound) → (l : Looper) → SharesChunks l →
+        let act = played l.globals.fade_step x in
+        all_played x l ≡ in_turn played_on (λ before t behind. act (left_by l.chunks before behind) t) [] l.tracks }
+{}
+
+/// Whatever is done to a loop keeps its tape to the chunks that the loop reaches.
+pub fn what_is_done_to_a_loop_stays_in_reach()
+    ensures hit { (verb : Verb) → StaysInReach (given verb) }
+    ensures down { (verb : Verb) → (frame : ℕ) → StaysInReach (pressed verb frame) }
+    ensures up { (verb : Verb) → (frame long_press : ℕ) → StaysInReach (released verb frame long_press) }
+    ensures set { (control : Control) → (value : ℤ) → StaysInReach (sets control value) }
+    ensures boundary { (g : Globals) → (frame : ℕ) → (faces : List Face) → StaysInReach (at_boundary g frame faces) }
+    ensures frame { (x : Sound) → StaysInReach (λ reach l. after x reach (ready x reach l)) }
+{}
+
+/// Every looper that a run reaches shares its chunks so.
+pub fn a_reached_looper_shares_its_chunks()
+    ensures { (frame : ℕ) → (l : Looper) → IsLooper frame l → SharesChunks l }
+{}
