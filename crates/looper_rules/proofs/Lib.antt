@@ -6,3 +6,4 @@ pub mod UndoLemmas
 pub mod OtherLemmas
 pub mod RefusalLemmas
 pub mod SharingLemmas
+pub mod VerbOpenings

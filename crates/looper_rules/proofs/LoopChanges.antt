@@ -14,7 +14,7 @@ use Rattle.looper_rules.specs.Opening.{opening}
 use Rattle.looper_rules.specs.Loop.{Loop, is_writing, length_of, base_length_of, in_mode, turned, rounds, with_stack}
 use Rattle.looper_rules.specs.Closing.{closed_recording, multiply_cut, closed_from, closed, at_stop}
 use Rattle.looper_rules.specs.Starting.{records, starts_record, layers_on, starts, leaves_wait}
-use Rattle.looper_rules.specs.History.{undone, redone, closed_if, settled, with_fewer, stepped_back, undo, with_more, redo_from, redo, undo_each, redo_each}
+use Rattle.looper_rules.specs.History.{undone, redone_from, redone, closed_if, settled, with_fewer, stepped_back, undo, with_more, redo_from, redo, undo_each, redo_each}
 use Rattle.looper_rules.specs.Verbs.{Column, InOff, InItsOwn, InAnother, Elsewhere, column, unless_off, closes_then, plays_from_start, ends, reversed_in, record_row, layer_row, length_row, mute_row, mute_on_row, mute_off_row, pause_row, start_row, reverse_row, row, acts_waiting, acts_from, acts}
 use Rattle.looper_rules.proofs.StackChanges.{IsSame, IsSettled, IsMoved, IsDone, same, same_touched, touched_settled, moved_on, settled_then_moved, moved_itself, settled_done}
 use Rattle.looper_rules.proofs.StackSteps.{run_broken_same, finished_touched, dropped_settled, undone_moved, redone_moved, settled_then_opened}
@@ -86,7 +86,7 @@ stepped_back_moved : {A : Type 0} {reach : ℕ} (l : Loop A) → IsMoved reach l
 stepped_back_moved {reach = reach} l = subst (λ s. IsMoved reach l.stack s) (sym (stepped_back_stack l)) undone_moved
 
 -- undo from a mode in which no layer is open
-quiet_settled : {A : Type 0} (l : Loop A) → is_writing l.deck.mode ≡ false → settled l ≡ l
+pub quiet_settled : {A : Type 0} (l : Loop A) → is_writing l.deck.mode ≡ false → settled l ≡ l
 quiet_settled l quiet = ap (λ writing. closed_if writing l) quiet
 
 pub undo_quiet : {A : Type 0} (l : Loop A) → is_writing (undo l).deck.mode ≡ false
@@ -111,6 +111,14 @@ redo_from_moved {reach = reach} (_ ∷ _) l = subst (λ s. IsMoved reach l.stack
 redo_each_moved : {A : Type 0} {reach : ℕ} (layers : List (Layer A)) (l : Loop A) → IsMoved reach l.stack (redo_each layers l).stack
 redo_each_moved [] l = moved_itself
 redo_each_moved (_ ∷ ls) l = moved_on (redo_from_moved l.stack.redo l) (redo_each_moved ls (redo l))
+
+-- redo brings the next redo layer back
+redo_from_stack : {A : Type 0} (redo : List (Layer A)) (l : Loop A) → (redo_from redo (with_stack (record l.stack { redo = redo }) l)).stack ≡ redone_from redo (record l.stack { redo = redo })
+redo_from_stack [] l = refl
+redo_from_stack (r ∷ rs) l = with_more_stack l.deck.mode _
+
+pub redo_stack : {A : Type 0} (l : Loop A) → (redo l).stack ≡ redone l.stack
+redo_stack l = redo_from_stack l.stack.redo l
 
 moved_done : {A : Type 0} {reach : ℕ} {old new : Stack A} → IsMoved reach old new → IsDone reach old new
 moved_done h = settled_then_moved (touched_settled (same_touched same)) h

@@ -3,16 +3,14 @@ use Rattle.std.proofs.Common.{◌≡◌, ◌≢◌, ℕ, ◌≤◌, Bool, true, 
 use Rattle.std.proofs.lemmas.Bool.{le-leb}
 use Rattle.sl_base.specs.Sounds.{Sound, loudness}
 use Rattle.sl_commands.specs.declared.Mode.{Mode}
-use Rattle.sl_commands.specs.declared.Mode.TheVariants.{Off, WaitStart}
+use Rattle.sl_commands.specs.declared.Mode.TheVariants.{WaitStart}
 use Rattle.sl_commands.specs.declared.Started.{Started}
 use Rattle.sl_commands.specs.declared.Started.TheVariants.{Ok}
 use Rattle.sl_commands.specs.declared.Command.{Command}
 use Rattle.sl_commands.specs.declared.Entry.{Entry}
 use Rattle.looper_rules.specs.Opening.{opening}
 use Rattle.looper_rules.specs.Loop.{Loop, in_mode, refused_once}
-use Rattle.looper_rules.specs.Closing.{closed}
 use Rattle.looper_rules.specs.Starting.{records, starts_record, layers_on, starts, leaves_wait}
-use Rattle.looper_rules.specs.Verbs.{unless_off, closes_then}
 use Rattle.looper_rules.specs.LoopFrame.{wakes_as, awake_in, awake}
 use Rattle.looper_rules.specs.Looper.{Looper}
 use Rattle.looper_rules.specs.Entries.{performed, is_taken, applied}
@@ -32,7 +30,7 @@ applied_nothing frame e command l nothing its =
 pub counted : (l : Loop Sound) → CountsRefusal l (refused_once l)
 counted l = record { refused = refl; deck = refl; controls = refl; stack = refl }
 
-records_refused : (answer : Started) (l : Loop Sound) → answer ≢ Ok → CountsRefusal l (records answer l)
+pub records_refused : (answer : Started) (l : Loop Sound) → answer ≢ Ok → CountsRefusal l (records answer l)
 records_refused Ok l refused = absurd (refused refl)
 records_refused _ l refused = counted l
 
@@ -46,14 +44,6 @@ layers_on_refused _ mode l refused = counted l
 
 pub starts_refused : (reach : ℕ) (mode : Mode) (l : Loop Sound) → opening reach false l.stack ≢ Ok → CountsRefusal l (starts mode reach l)
 starts_refused reach mode l refused = layers_on_refused (opening reach false l.stack) mode l refused
-
--- behind a closing
-unless_off_refused : (mode : Mode) (act : Loop Sound → Loop Sound) (l : Loop Sound) → mode ≢ Off → CountsRefusal l (act l) → CountsRefusal l (unless_off mode act l)
-unless_off_refused Off act l on counts = absurd (on refl)
-unless_off_refused _ act l on counts = counts
-
-pub closes_then_refused : (reach : ℕ) (mode : Mode) (l : Loop Sound) → (closed l).deck.mode ≢ Off → opening reach false (closed l).stack ≢ Ok → CountsRefusal (closed l) (closes_then (starts mode reach) l)
-closes_then_refused reach mode l on refused = unless_off_refused (closed l).deck.mode (starts mode reach) (closed l) on (starts_refused reach mode (closed l) refused)
 
 -- at a loud frame
 wakes_refused : (answer : Started) (l : Loop Sound) → answer ≢ Ok → wakes_as answer l ≡ leaves_wait (refused_once l)

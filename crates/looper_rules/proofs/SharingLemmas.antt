@@ -1,5 +1,5 @@
 -- The room that passes on from loop to loop is what all others leave.
-use Rattle.std.proofs.Common.{◌≡◌, ℕ, zero, suc, ◌+◌, ◌-◌, ◌%◌, ◌≤◌, ◌||◌, not, List, [], ◌∷◌, ◌++◌, refl, ap, ◌∙◌, arith, nat_lt}
+use Rattle.std.proofs.Common.{◌≡◌, ℕ, zero, suc, ◌+◌, ◌-◌, ◌%◌, ◌≤◌, ◌||◌, not, List, [], ◌∷◌, ◌++◌, refl, sym, ap, ◌∙◌, arith, nat_lt}
 use Rattle.std.specs.Prelude.{◌==◌}
 use Rattle.std.specs.List.{AllByRecursion}
 use Rattle.std.proofs.lemmas.Bool.Decides.{nat_tests}
@@ -29,15 +29,21 @@ has_room-left_by chunks tape before behind =
     in let sum : others + chunks_of tape ≡ used (tapes_of before ++ tape ∷ tapes_of behind) = (let all = used-among before behind tape in omega arith)
     in ap (λ free. not (tape % chunk_frames == 0) || free) (less_than_left (chunks_of tape) others chunks ∙ ap (λ n. nat_lt n chunks) sum)
 
+-- with its own tape a track stands among all
+tapes_of-append : (before behind : List Track) (t : Track) → tapes_of (before ++ t ∷ behind) ≡ tapes_of before ++ tape_of t ∷ tapes_of behind
+tapes_of-append [] behind t = refl
+tapes_of-append (b ∷ bs) behind t = ap (λ tapes. tape_of b ∷ tapes) (tapes_of-append bs behind t)
+
+pub has_room-own_tape : (chunks : ℕ) (before behind : List Track) (t : Track) → has_room (left_by chunks before behind) (tape_of t) ≡ (not (tape_of t % chunk_frames == 0) || nat_lt (used (tapes_of (before ++ t ∷ behind))) chunks)
+has_room-own_tape chunks before behind t =
+    has_room-left_by chunks (tape_of t) before behind
+    ∙ ap (λ tapes. not (tape_of t % chunk_frames == 0) || nat_lt (used tapes) chunks) (sym (tapes_of-append before behind t))
+
 used-cons : (t : Track) (ts : List Track) → used (tapes_of (t ∷ ts)) ≡ chunks_of (tape_of t) + used (tapes_of ts)
 used-cons t ts = sum_by-cons chunks_of (tape_of t) (tapes_of ts)
 
-tapes_of-push : (before : List Track) (t : Track) → tapes_of (before ++ t ∷ []) ≡ tapes_of before ++ tape_of t ∷ []
-tapes_of-push [] t = refl
-tapes_of-push (b ∷ bs) t = ap (λ tapes. tape_of b ∷ tapes) (tapes_of-push bs t)
-
 used-push : (before : List Track) (t : Track) → used (tapes_of (before ++ t ∷ [])) ≡ used (tapes_of before) + chunks_of (tape_of t)
-used-push before t = ap used (tapes_of-push before t) ∙ sum_by_push chunks_of (tapes_of before) (tape_of t)
+used-push before t = ap used (tapes_of-append before [] t) ∙ sum_by_push chunks_of (tapes_of before) (tape_of t)
 
 -- what a track reaches is what the others leave
 reach_of-left_by : (chunks free : ℕ) (before : List Track) (t : Track) (behind : List Track) → free + (used (tapes_of before) + used (tapes_of (t ∷ behind))) ≡ chunks → reach_of free t ≡ left_by chunks before behind

@@ -3,18 +3,20 @@ use Rattle.std.proofs.Common.{◌≡◌, ℕ, ◌≤◌, Bool, true, false, List
 use Rattle.std.specs.Prelude.{◌==◌}
 use Rattle.std.proofs.lemmas.Bool.{ne_eqb}
 use Rattle.sl_base.specs.Sounds.{Sound}
+use Rattle.sl_commands.specs.declared.Verb.TheVariants.{Undo, Redo}
 use Rattle.sl_commands.specs.declared.Mode.{Mode}
 use Rattle.sl_commands.specs.declared.Mode.TheVariants.{Recording, Multiplying}
 use Rattle.looper_rules.specs.Layers.{Cell, Layer, contents, old_cells, unmarked, with_current, without_current, current_length}
 use Rattle.looper_rules.specs.Stack.{Stack}
-use Rattle.looper_rules.specs.Loop.{Loop, is_writing, length_of, base_length_of, with_stack}
+use Rattle.looper_rules.specs.Loop.{Loop, is_writing, length_of, base_length_of}
 use Rattle.looper_rules.specs.Closing.{cut_cells, finished_layer, closed_recording, multiply_cut, closed_from}
-use Rattle.looper_rules.specs.History.{undone_from, redone_from, redone, closed_if, settled, undo, redo_from, redo}
+use Rattle.looper_rules.specs.History.{undone_from, redone, closed_if, settled}
+use Rattle.looper_rules.specs.Verbs.{acts}
 use Rattle.looper_rules.specs.Saves.{pinned}
 use Rattle.looper_rules.specs.Undoing.{IsOpenedFrom, for_record, for_mode, StaysOpen, at_once, through_frame, through_save, aside, StandsClosed}
 use Rattle.looper_rules.proofs.StackChanges.{IsTouched}
 use Rattle.looper_rules.proofs.StackSteps.{finished_touched, pinned_touched}
-use Rattle.looper_rules.proofs.LoopChanges.{with_more_stack, stepped_back_stack}
+use Rattle.looper_rules.proofs.VerbOpenings.{acts_undo_stack, acts_redo_stack}
 use Rattle.looper_rules.proofs.FrameChanges.{frame_stepped}
 
 -- an open layer, over these layers
@@ -60,30 +62,20 @@ undone_layers : {A : Type 0} (layers : List (Layer A)) (s : Stack A) → (undone
 undone_layers [] s = refl
 undone_layers (l ∷ ls) s = refl
 
-undo_layers : {A : Type 0} (l : Loop A) → (undo l).stack.layers ≡ without_current (settled l).stack.layers
-undo_layers {A = A} l = ap (λ (s : Stack A). s.layers) (stepped_back_stack (settled l)) ∙ undone_layers (settled l).stack.layers (settled l).stack
-
-pub undo_opened : (before opened now : Loop Sound) → IsOpenedFrom before opened → StaysOpen opened now → 1 ≤ length_of now → (undo now).stack.layers ≡ before.stack.layers
-undo_opened before opened now opens stays some =
+pub undo_opened : (reach : ℕ) (before opened now : Loop Sound) → IsOpenedFrom before opened → StaysOpen opened now → 1 ≤ length_of now → (acts Undo reach now).stack.layers ≡ before.stack.layers
+undo_opened reach before opened now opens stays some =
     let there = stays_on before.stack.layers (opened_on opens) stays
-    in undo_layers now ∙ (closed_below now there.writing some ∙ there.layers)
+    in ap (λ (s : Stack Sound). s.layers) (acts_undo_stack reach now)
+    ∙ (undone_layers (settled now).stack.layers (settled now).stack ∙ (closed_below now there.writing some ∙ there.layers))
 
--- redo brings the next redo layer back
-redo_from_stack : {A : Type 0} (redo : List (Layer A)) (l : Loop A) → (redo_from redo (with_stack (record l.stack { redo = redo }) l)).stack ≡ redone_from redo (record l.stack { redo = redo })
-redo_from_stack [] l = refl
-redo_from_stack (r ∷ rs) l = with_more_stack l.deck.mode _
-
-redo_stack : {A : Type 0} (l : Loop A) → (redo l).stack ≡ redone l.stack
-redo_stack l = redo_from_stack l.stack.redo l
-
--- and so it brings back what undo moved
+-- redo brings back what undo moved
 redone_undone : {A : Type 0} (layers : List (Layer A)) (s : Stack A) → 1 ≤ length layers → redone (undone_from layers (record s { layers = layers })) ≡ record s { layers = layers }
 redone_undone [] s some = absurd (let none : ⊥ = omega arith in none)
 redone_undone (l ∷ ls) s some = refl
 
-pub redo_undo : {A : Type 0} (l : Loop A) → 1 ≤ length (settled l).stack.layers → (redo (undo l)).stack ≡ (settled l).stack
-redo_undo l some =
-    redo_stack (undo l) ∙ (ap redone (stepped_back_stack (settled l)) ∙ redone_undone (settled l).stack.layers (settled l).stack some)
+pub redo_undo : (reach more : ℕ) (l : Loop Sound) → 1 ≤ length (settled l).stack.layers → (acts Redo more (acts Undo reach l)).stack ≡ (settled l).stack
+redo_undo reach more l some =
+    acts_redo_stack more (acts Undo reach l) ∙ (ap redone (acts_undo_stack reach l) ∙ redone_undone (settled l).stack.layers (settled l).stack some)
 
 -- cells without their marks stay as they are when the marks are cleared again
 list_of_old_cells : {A : Type 0} (list : List A) → contents (old_cells list) ≡ list
@@ -121,8 +113,8 @@ settled_stands l writing some = subst (λ is. StandsClosed l.stack.tape l.stack.
 stands_some : (tape : ℕ) (was now : List (Layer Sound)) → StandsClosed tape was now → 1 ≤ length now
 stands_some tape was now h = rw h.after (omega arith)
 
-pub redo_undo_stands : (l : Loop Sound) → is_writing l.deck.mode ≡ true → 1 ≤ length_of l → StandsClosed l.stack.tape l.stack.layers (redo (undo l)).stack.layers
-redo_undo_stands l writing some =
+pub redo_undo_stands : (reach more : ℕ) (l : Loop Sound) → is_writing l.deck.mode ≡ true → 1 ≤ length_of l → StandsClosed l.stack.tape l.stack.layers (acts Redo more (acts Undo reach l)).stack.layers
+redo_undo_stands reach more l writing some =
     let stands = settled_stands l writing some
     in let count = stands_some l.stack.tape l.stack.layers (settled l).stack.layers stands
-    in subst (λ (s : Stack Sound). StandsClosed l.stack.tape l.stack.layers s.layers) (sym (redo_undo l count)) stands
+    in subst (λ (s : Stack Sound). StandsClosed l.stack.tape l.stack.layers s.layers) (sym (redo_undo reach more l count)) stands

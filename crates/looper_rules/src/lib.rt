@@ -46,5 +46,6 @@ pub use shared_room::{
     what_is_done_to_a_loop_stays_in_reach,
 };
 pub use undoing::{
-    redo_gives_back_the_layer_that_undo_moved, undo_gives_back_the_list_before_an_opening,
+    a_writing_verb_opens_a_loop, redo_gives_back_the_layer_that_undo_moved,
+    undo_gives_back_the_list_before_an_opening,
 };

@@ -4,11 +4,14 @@ use Rattle.looper_rules.specs.Undoing.{frame_later}
 use Rattle.looper_rules.proofs.StackChanges.{IsDone}
 use Rattle.looper_rules.proofs.FrameChanges.{frame_done}
 use Rattle.looper_rules.proofs.OtherLemmas.{at_boundary_done}
-use Rattle.looper_rules.proofs.SharingLemmas.{has_room-left_by, swept_in_turn, on_target_in_turn}
+use Rattle.looper_rules.proofs.SharingLemmas.{has_room-left_by, has_room-own_tape, swept_in_turn, on_target_in_turn}
 use Rattle.looper_rules.proofs.shared_room.the_room_that_passes_on_is_what_the_others_leave.Goals as goal
 
 pub returns-clause-room : goal.returns-clause-room
 returns-clause-room c = has_room-left_by
+
+pub returns-clause-own_tape : goal.returns-clause-own_tape
+returns-clause-own_tape c = has_room-own_tape
 
 pub returns-clause-commands : goal.returns-clause-commands
 returns-clause-commands c target act l stays shares = on_target_in_turn target act l stays shares
