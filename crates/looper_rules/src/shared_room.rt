@@ -18,8 +18,8 @@ ghost use Rattle.looper_rules.specs.States.{IsLooper};
 ghost use Rattle.looper_rules.specs.Undoing.{frame_later};
 ghost use Rattle.looper_rules.specs.Sharing.{tapes_of, has_room_among, left_by, in_turn, in_turn_at, SharesChunks, StaysInReach};
 
-/// The room that passes on from loop to loop is the written test on what all loops use, those before in the order of the
-/// index as they stand by then, and those behind as they still are.
+/// The room that passes on from loop to loop is the written test on what all loops use: those before, in the order of
+/// the index, as they stand by then, and those behind as they still are.
 pub fn the_room_that_passes_on_is_what_the_others_leave()
     ensures room { (chunks tape : ℕ) → (before behind : List Track) →
         has_room (left_by chunks before behind) tape ≡ has_room_among chunks before tape behind }
@@ -51,7 +51,7 @@ pub fn what_is_done_to_a_loop_stays_in_reach()
     ensures frame { (x : Sound) → StaysInReach (λ reach l. frame_later x reach l) }
 {}
 
-/// Every looper that a run reaches shares its chunks so.
+/// A looper of which all holds that holds of every reached one shares its chunks so.
 pub fn a_reached_looper_shares_its_chunks()
     ensures { (frame : ℕ) → (l : Looper) → IsLooper frame l → SharesChunks l }
 {}
