@@ -1,1 +1,6 @@
+pub mod FirstJournalLemmas
+pub mod NumeralLemmas
+pub mod OneRunLemmas
 pub mod WordsLemmas
+pub mod InputLemmas
+pub mod EndingLemmas

@@ -1,4 +1,11 @@
 pub mod Words
+pub mod Named
+pub mod Numerals
+pub mod FirstJournal
+pub mod FirstReading
+pub mod OneRun
 pub mod Statuses
 pub mod Console
-pub mod Named
+pub mod Inputs
+pub mod Contents
+pub mod Endings

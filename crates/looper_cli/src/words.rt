@@ -2,8 +2,8 @@
 
 ghost use Rattle.std.specs.Prelude.{map};
 ghost use Rattle.std.specs.String.{string_bytes};
-ghost use Rattle.looper_cli.specs.Words.{files_of, files_named};
-ghost use Rattle.looper_cli.specs.Named.{GivesFiles};
+ghost use Rattle.looper_cli.specs.Words.{names_of, names_in};
+ghost use Rattle.looper_cli.specs.Named.{GivesNames};
 
 use sl_base::Name;
 use thiserror::Error;
@@ -19,6 +19,13 @@ pub struct Render {
     pub out: Name,
 }
 
+/// What the words ask for, one variant a command.
+#[derive(Drop)]
+pub enum Words {
+    /// `render IN JOURNAL OUT`.
+    Render(Render),
+}
+
 /// Why words name no run.
 #[derive(Clone, Copy, Debug, PartialEq, Eq, Error)]
 pub enum WordsFault {
@@ -28,8 +35,8 @@ pub enum WordsFault {
 }
 
 /// The run that four words name.
-fn render_of(first: &[u8], input: &[u8], journal: &[u8], out: &[u8]) -> Result<Render, WordsFault>
-    ensures { GivesFiles (files_of first.now (record { input = input.now; journal = journal.now; out = out.now })) result }
+fn render_of(first: &[u8], input: &[u8], journal: &[u8], out: &[u8]) -> Result<Words, WordsFault>
+    ensures { GivesNames (names_of first.now (record { input = input.now; journal = journal.now; out = out.now })) result }
 {
     if first != b"render".as_slice() {
         return Err(WordsFault::Words);
@@ -43,16 +50,16 @@ fn render_of(first: &[u8], input: &[u8], journal: &[u8], out: &[u8]) -> Result<R
     let Some(out) = Name::read(out) else {
         return Err(WordsFault::Words);
     };
-    Ok(Render {
+    Ok(Words::Render(Render {
         input,
         journal,
         out,
-    })
+    }))
 }
 
 /// The run that the words name: `render IN JOURNAL OUT`, byte for byte, each of the three a file's name.
-pub fn words_of(words: &[String]) -> Result<Render, WordsFault>
-    ensures { GivesFiles (files_named (map string_bytes words.now)) result }
+pub fn words_of(words: &[String]) -> Result<Words, WordsFault>
+    ensures { GivesNames (names_in (map string_bytes words.now)) result }
 {
     if words.len() != 4 {
         return Err(WordsFault::Words);

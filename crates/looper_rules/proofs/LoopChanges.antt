@@ -19,10 +19,6 @@ use Rattle.looper_rules.specs.Verbs.{Column, InOff, InItsOwn, InAnother, Elsewhe
 use Rattle.looper_rules.proofs.StackChanges.{IsSame, IsSettled, IsMoved, IsDone, same, same_touched, touched_settled, moved_on, settled_then_moved, moved_itself, settled_done}
 use Rattle.looper_rules.proofs.StackSteps.{run_broken_same, finished_touched, dropped_settled, undone_moved, redone_moved, settled_then_opened}
 
--- the loop in this mode
-abbrev pub set_to : {A : Type 0} → Mode → Loop A → Loop A
-set_to mode l = record l { deck = record l.deck { mode = mode } }
-
 -- closing settles, whatever the mode
 closed_recording_settled : {A : Type 0} {reach : ℕ} (empty single : Bool) (l : Loop A) → IsSettled reach l.stack (closed_recording empty single l).stack
 closed_recording_settled true true l = dropped_settled

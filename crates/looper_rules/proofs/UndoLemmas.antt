@@ -6,7 +6,7 @@ use Rattle.sl_base.specs.Sounds.{Sound}
 use Rattle.sl_commands.specs.declared.Verb.TheVariants.{Undo, Redo}
 use Rattle.sl_commands.specs.declared.Mode.{Mode}
 use Rattle.sl_commands.specs.declared.Mode.TheVariants.{Recording, Multiplying}
-use Rattle.looper_rules.specs.Layers.{Cell, Layer, contents, old_cells, unmarked, with_current, without_current, current_length}
+use Rattle.looper_rules.specs.Layers.{Layer, with_current, without_current, current_length}
 use Rattle.looper_rules.specs.Stack.{Stack}
 use Rattle.looper_rules.specs.Loop.{Loop, is_writing, length_of, base_length_of}
 use Rattle.looper_rules.specs.Closing.{cut_cells, finished_layer, closed_recording, multiply_cut, closed_from}
@@ -14,6 +14,7 @@ use Rattle.looper_rules.specs.History.{undone_from, redone, closed_if, settled}
 use Rattle.looper_rules.specs.Verbs.{acts}
 use Rattle.looper_rules.specs.Saves.{pinned}
 use Rattle.looper_rules.specs.Undoing.{IsOpenedFrom, for_record, for_mode, StaysOpen, at_once, through_frame, through_save, aside, StandsClosed}
+use Rattle.looper_rules.proofs.KeptLayers.{unmarked-unmarked}
 use Rattle.looper_rules.proofs.StackChanges.{IsTouched}
 use Rattle.looper_rules.proofs.StackSteps.{finished_touched, pinned_touched}
 use Rattle.looper_rules.proofs.VerbOpenings.{acts_undo_stack, acts_redo_stack}
@@ -77,14 +78,6 @@ pub redo_undo : (reach more : ℕ) (l : Loop Sound) → 1 ≤ length (settled l)
 redo_undo reach more l some =
     acts_redo_stack more (acts Undo reach l) ∙ (ap redone (acts_undo_stack reach l) ∙ redone_undone (settled l).stack.layers (settled l).stack some)
 
--- cells without their marks stay as they are when the marks are cleared again
-list_of_old_cells : {A : Type 0} (list : List A) → contents (old_cells list) ≡ list
-list_of_old_cells [] = refl
-list_of_old_cells (x ∷ xs) = ap (λ r. x ∷ r) (list_of_old_cells xs)
-
-unmarked_again : {A : Type 0} (cells : List (Cell A)) → unmarked cells ≡ unmarked (unmarked cells)
-unmarked_again cells = ap old_cells (sym (list_of_old_cells (contents cells)))
-
 -- closing a list that isn't empty leaves its layer closed on the others
 finished_stands : (cut : Option ℕ) (tape : ℕ) (layers : List (Layer Sound)) → 1 ≤ current_length layers → StandsClosed tape layers (with_current (finished_layer cut tape) layers)
 finished_stands cut tape [] some = absurd (let none : ⊥ = omega arith in none)
@@ -95,7 +88,7 @@ finished_stands cut tape (l ∷ ls) some =
       below = ls;
       before = refl;
       after = refl;
-      closes = record { not_fresh = unmarked_again (cut_cells cut l.cells); no_base = refl; no_base_seams = refl; end = refl; seams = refl };
+      closes = record { not_fresh = unmarked-unmarked (cut_cells cut l.cells); no_base = refl; no_base_seams = refl; end = refl; seams = refl };
     }
 
 recording_stands : (empty single : Bool) (l : Loop Sound) → empty ≡ false → 1 ≤ length_of l → StandsClosed l.stack.tape l.stack.layers (closed_recording empty single l).stack.layers

@@ -20,8 +20,10 @@ pub mod Entries
 pub mod Frame
 pub mod Run
 pub mod States
-pub mod Worked
-pub mod OneLoop
+pub mod Reached
 pub mod OtherLayers
 pub mod Undoing
 pub mod Sharing
+pub mod Worked
+pub mod OneLoop
+pub mod SingleRun

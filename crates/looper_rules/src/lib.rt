@@ -4,15 +4,20 @@
 //!   verbs, presses and frames do to it, `specs/Values` what is read of it.
 //! - A looper is its loops with their gains, saves and chunks. `specs/Looper` to `specs/Frame` say what entries and frames
 //!   do to it, `specs/Run` what a whole run gives: output, replies, saves and the last looper.
-//! - `specs/States` has what holds of every loop and looper that a run reaches.
+//! - `specs/States` has what holds of every loop and looper that a run reaches, `specs/Reached` what makes it last.
+//! - `specs/OtherLayers`, `specs/Undoing` and `specs/Sharing` say what laws say of the layers that aren't the current one, of
+//!   undo and redo, and of the chunks that loops share.
 //! - `specs/OneLoop` has the single loop that `render` plays: it records between two hits and then repeats.
+//!   `specs/SingleRun` says where it is a looper of one loop.
 //!
 //! Begin with `specs/Layers` and follow the order of `specs/Lib`; the functions here are worked runs and laws, whose
 //! clauses compute or are proved from the definitions. The rules are docs/rules.md, under the same headings.
 #![tactic(auto)]
 
 mod one_loop;
+mod one_loop_law;
 mod other_layers;
+mod reached;
 mod runs_of_controls;
 mod runs_of_lengths;
 mod runs_of_loops;
@@ -21,8 +26,17 @@ mod shared_room;
 mod undoing;
 
 pub use one_loop::OneMode;
+pub use one_loop_law::{
+    hits_that_record_once_are_a_journal, the_single_loop_is_a_looper_of_one_loop,
+};
 pub use other_layers::{
     a_get_changes_nothing, a_refused_opening_is_counted_alone, only_the_current_layer_changes,
+};
+pub use reached::{
+    a_closing_keeps_the_loop, a_frame_keeps_the_loop, a_frame_keeps_the_looper,
+    a_kept_loop_is_a_loop, a_kept_looper_is_a_looper, a_run_begins_with_a_looper,
+    a_verb_keeps_the_loop, an_entry_keeps_the_looper, an_opening_keeps_the_loop,
+    each_state_of_a_run_is_a_looper,
 };
 pub use runs_of_controls::{
     a_gain_moves_by_steps, a_long_press_ends_its_overdub, a_recording_waits_for_its_threshold,

@@ -11,7 +11,7 @@ use Rattle.sl_commands.specs.declared.command.Target.{Target}
 use Rattle.sl_commands.specs.declared.block.Block.{Block}
 use Rattle.sl_commands.specs.declared.block.Block.TheVariants.{Head, Part, End}
 use Rattle.sl_commands.specs.Settings.{LooperSettings, max_length}
-use Rattle.sl_commands.specs.Blocks.{parts_behind, parts_of, parts_of_lists, first_index, blocks_of, Begun, Place, has_list, may_be_part, place_after, place_behind, start, place_of, save_of, fits_name, may_follow, may_all_follow, IsSave}
+use Rattle.sl_commands.specs.Blocks.{parts_behind, parts_of, parts_of_lists, first_index, blocks_of, Begun, Place, has_list, may_be_part, place_after, place_behind, first_place, place_of, save_of, fits_name, may_follow, may_all_follow, IsSave}
 
 -- both halves of a test that passed
 both : (a b : Bool) → (a && b) ≡ true → (a ≡ true) × (b ≡ true)
@@ -184,7 +184,7 @@ pub place_of-save :
     → place_of sent ≡ Some (record { saves = save; begun = None }) → IsSave target name (length settings.strips) lists
     → place_of (sent ++ blocks_of save name target settings lists) ≡ Some (record { saves = save + 1; begun = None })
 place_of-save sent save name target settings lists due is =
-    place_behind-append (Some start) sent (blocks_of save name target settings lists)
+    place_behind-append (Some first_place) sent (blocks_of save name target settings lists)
     ∙ ap (λ p. place_behind p (blocks_of save name target settings lists)) due
     ∙ save_comes save name target settings lists is
 
@@ -205,7 +205,7 @@ all_follow sent (b ∷ bs) bound q is fit =
     let parts = both (nat_lt (save_of b) bound) (fits_name b) halves.0 in
     let shifted : place_of ((sent ++ b ∷ []) ++ bs) ≡ Some q = ap place_of (append_assoc sent (b ∷ []) bs) ∙ is in
     let some : is_some (place_of (sent ++ b ∷ [])) ≡ true =
-    is_some_before (place_of (sent ++ b ∷ [])) bs q (sym (place_behind-append (Some start) (sent ++ b ∷ []) bs) ∙ shifted)
+    is_some_before (place_of (sent ++ b ∷ [])) bs q (sym (place_behind-append (Some first_place) (sent ++ b ∷ []) bs) ∙ shifted)
     in
     rw (some, parts.0, parts.1) (all_follow (sent ++ b ∷ []) bs bound q shifted halves.1)
 
@@ -264,4 +264,4 @@ pub follows_own_save :
     → may_follow sent b bound ≡ true → save_of b ≡ save
 follows_own_save sent b bound save g due may =
     let some : is_some (place_of (sent ++ b ∷ [])) ≡ true = (both _ _ ((both _ _ may).0)).0 in
-    own_block save g b (subst (λ (p : Option Place). is_some p ≡ true) (place_behind-append (Some start) sent (b ∷ []) ∙ ap (λ p. place_behind p (b ∷ [])) due) some)
+    own_block save g b (subst (λ (p : Option Place). is_some p ≡ true) (place_behind-append (Some first_place) sent (b ∷ []) ∙ ap (λ p. place_behind p (b ∷ [])) due) some)

@@ -4,6 +4,7 @@
 -- The save of a loop has that loop as target and one list, of its index. The save of a session has all loops as target,
 -- and each index in it is below the number of loops in its settings.
 -- Saves are numbered from 0 in the order of their entries, and the blocks of one stand before those of the next.
+-- "Blocks of a save" in docs/rules.md.
 use Rattle.std.specs.Prelude.{◌≡◌, ◌<◌, ℕ, ◌+◌, ◌%◌, Bool, true, false, ◌&&◌, ◌||◌, ◌==◌, nat_le, nat_lt, cond, List, [], ◌∷◌, ◌++◌, length, Option, Some, None, is_some}
 use Rattle.std.specs.Bool.{then_some}
 use Rattle.std.specs.List.{list_all}
@@ -99,12 +100,12 @@ place_behind None (b ∷ bs) = None
 place_behind (Some p) (b ∷ bs) = place_behind (place_after p.saves p.begun b) bs
 
 -- before all blocks
-abbrev pub start : Place
-start = record { saves = 0; begun = None }
+abbrev pub first_place : Place
+first_place = record { saves = 0; begun = None }
 
 -- how far blocks have come, or None where they break the order
 abbrev pub place_of : List Block → Option Place
-place_of bs = place_behind (Some start) bs
+place_of bs = place_behind (Some first_place) bs
 
 -- the number of a block's save
 abbrev pub save_of : Block → ℕ

@@ -3,6 +3,7 @@
 -- A set and a get name a loop's control, a global set and a global get one of the looper's. What is set lies in the
 -- control's range. A release tells how the save ended: 0 written, 1 the keeper failed, 4 no memory.
 -- The name of a session has at most 48 bytes.
+-- "Commands" in docs/rules.md.
 use Rattle.std.specs.Prelude.{ℕ, Bool, true, false, ◌&&◌, ◌||◌, not, ◌==◌, nat_le, nat_lt, List, length}
 use Rattle.sl_base.specs.Names.{is_name}
 use Rattle.sl_commands.specs.declared.command.Target.{Target}

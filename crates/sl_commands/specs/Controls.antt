@@ -3,6 +3,7 @@
 -- Lengths, positions and times are frames, feedback, wet and dry thousandths, rec_thresh is an absolute sample.
 -- quantize is 0 off, 1 cycle, 2 eighth of a cycle, 3 loop. round is 0 or 1.
 -- sync_source is -3 for the pulse, 0 for none, or a loop's number counted from 1. selected_loop_num counts from 0.
+-- "Controls" in docs/rules.md.
 use Rattle.std.specs.Str.{bytes_eq}
 use Rattle.std.specs.Prelude.{ℕ, ℤ, pos, negsuc, Bool, true, false, ◌&&◌, ◌==◌, nat_le, nat_lt, List, [], ◌∷◌, codes}
 use Rattle.sl_commands.specs.declared.control.Control.{Control}
@@ -16,35 +17,37 @@ pub record ControlRow : Type 0 where
   pub of_loop : Bool
   pub range : Range
 
-abbrev pub of_loop : List ℕ → Range → ControlRow
-of_loop name range = record { name = name; of_loop = true; range = range }
+-- a line on a control of each loop
+abbrev pub loop_line : List ℕ → Range → ControlRow
+loop_line name range = record { name = name; of_loop = true; range = range }
 
-abbrev pub of_looper : List ℕ → Range → ControlRow
-of_looper name range = record { name = name; of_loop = false; range = range }
+-- a line on a control of the looper
+abbrev pub looper_line : List ℕ → Range → ControlRow
+looper_line name range = record { name = name; of_loop = false; range = range }
 
 -- the table of controls; `Between` has the least value, the greatest and the first
 abbrev pub control_row : Control → ControlRow
-control_row Feedback = of_loop (codes "feedback") (Between 0 1000 1000)
-control_row Wet = of_loop (codes "wet") (Between 0 1000 1000)
-control_row Round = of_loop (codes "round") (Between 0 1 0)
-control_row Quantize = of_loop (codes "quantize") (Between 0 3 0)
-control_row RecThresh = of_loop (codes "rec_thresh") (Between 0 8388607 0)
-control_row State = of_loop (codes "state") ReadOnly
-control_row LoopLen = of_loop (codes "loop_len") ReadOnly
-control_row LoopPos = of_loop (codes "loop_pos") ReadOnly
-control_row CycleLen = of_loop (codes "cycle_len") ReadOnly
-control_row Waiting = of_loop (codes "waiting") ReadOnly
-control_row Layers = of_loop (codes "layers") ReadOnly
-control_row RedoLayers = of_loop (codes "redo_layers") ReadOnly
-control_row Refused = of_loop (codes "refused") ReadOnly
-control_row Reversed = of_loop (codes "reversed") ReadOnly
-control_row FreeTime = of_loop (codes "free_time") ReadOnly
-control_row Dry = of_looper (codes "dry") (Between 0 1000 0)
-control_row SyncSource = of_looper (codes "sync_source") Source
-control_row SelectedLoopNum = of_looper (codes "selected_loop_num") LoopIndex
-control_row FadeStep = of_looper (codes "fade_step") (Between 1 1000 20)
-control_row LongPress = of_looper (codes "long_press") (Between 0 16777216 24000)
-control_row Pulse = of_looper (codes "pulse") (Between 1 16777216 24000)
+control_row Feedback = loop_line (codes "feedback") (Between 0 1000 1000)
+control_row Wet = loop_line (codes "wet") (Between 0 1000 1000)
+control_row Round = loop_line (codes "round") (Between 0 1 0)
+control_row Quantize = loop_line (codes "quantize") (Between 0 3 0)
+control_row RecThresh = loop_line (codes "rec_thresh") (Between 0 8388607 0)
+control_row State = loop_line (codes "state") ReadOnly
+control_row LoopLen = loop_line (codes "loop_len") ReadOnly
+control_row LoopPos = loop_line (codes "loop_pos") ReadOnly
+control_row CycleLen = loop_line (codes "cycle_len") ReadOnly
+control_row Waiting = loop_line (codes "waiting") ReadOnly
+control_row Layers = loop_line (codes "layers") ReadOnly
+control_row RedoLayers = loop_line (codes "redo_layers") ReadOnly
+control_row Refused = loop_line (codes "refused") ReadOnly
+control_row Reversed = loop_line (codes "reversed") ReadOnly
+control_row FreeTime = loop_line (codes "free_time") ReadOnly
+control_row Dry = looper_line (codes "dry") (Between 0 1000 0)
+control_row SyncSource = looper_line (codes "sync_source") Source
+control_row SelectedLoopNum = looper_line (codes "selected_loop_num") LoopIndex
+control_row FadeStep = looper_line (codes "fade_step") (Between 1 1000 20)
+control_row LongPress = looper_line (codes "long_press") (Between 0 16777216 24000)
+control_row Pulse = looper_line (codes "pulse") (Between 1 16777216 24000)
 
 -- the name of a control, in messages and texts
 abbrev pub control_name : Control → List ℕ

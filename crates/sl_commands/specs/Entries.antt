@@ -1,6 +1,7 @@
 -- An entry is a command with the frame at which it applies, its sender, and its number among this sender's entries.
 -- Senders are 0 for OSC, 1 for MIDI and 2 for the saver. Releases come from the saver alone, and it sends nothing else.
 -- A list of entries is stamped where frames never fall, and each sender's numbers are 0, 1, 2 and so on in order.
+-- "Entries" in docs/rules.md.
 use Rattle.std.specs.Prelude.{◌≡◌, ◌≤◌, ℕ, ◌+◌, Bool, true, ◌&&◌, ◌==◌, nat_le, nat_lt, List, [], ◌∷◌, ◌++◌, length, filter}
 use Rattle.std.specs.List.{list_all}
 use Rattle.sl_commands.specs.declared.command.Command.{Command}

@@ -2,6 +2,7 @@
 -- A strip's settings are the length of its list, its cycle, and the values of a loop's controls that can be set.
 -- The rate is 1 to 768000, there are 1 to 16 loops, and each value lies in its control's range.
 -- A length is at most 16777216. The cycle is 1 to the length, or 0 where the length is 0.
+-- "Settings" in docs/rules.md.
 use Rattle.std.specs.Prelude.{ℕ, zero, suc, pos, Bool, ◌&&◌, ◌==◌, nat_le, List, length, replicate}
 use Rattle.std.specs.List.{list_all}
 use Rattle.sl_commands.specs.declared.control.Control.TheVariants.{Feedback, Wet, Round, Quantize, RecThresh, Dry, SyncSource, SelectedLoopNum, FadeStep, LongPress, Pulse}

@@ -1,4 +1,5 @@
 -- A verb is what is done to a loop. There are 17, each with a name and a number, the first number being 0.
+-- "Verbs and their names" in docs/rules.md.
 use Rattle.std.specs.Str.{bytes_eq}
 use Rattle.std.specs.Prelude.{ℕ, Bool, List, [], ◌∷◌, codes}
 use Rattle.sl_commands.specs.declared.verb.Verb.{Verb}
@@ -9,28 +10,29 @@ pub record VerbRow : Type 0 where
   pub number : ℕ
   pub name : List ℕ
 
-abbrev pub row : ℕ → List ℕ → VerbRow
-row number name = record { number = number; name = name }
+-- a line of the table
+abbrev pub verb_line : ℕ → List ℕ → VerbRow
+verb_line number name = record { number = number; name = name }
 
 -- the table of verbs
 abbrev pub verb_row : Verb → VerbRow
-verb_row Rec = row 0 (codes "record")
-verb_row Overdub = row 1 (codes "overdub")
-verb_row Multiply = row 2 (codes "multiply")
-verb_row Insert = row 3 (codes "insert")
-verb_row Replace = row 4 (codes "replace")
-verb_row Substitute = row 5 (codes "substitute")
-verb_row Mute = row 6 (codes "mute")
-verb_row MuteOn = row 7 (codes "mute_on")
-verb_row MuteOff = row 8 (codes "mute_off")
-verb_row OneShot = row 9 (codes "oneshot")
-verb_row Trigger = row 10 (codes "trigger")
-verb_row Reverse = row 11 (codes "reverse")
-verb_row Pause = row 12 (codes "pause")
-verb_row Undo = row 13 (codes "undo")
-verb_row Redo = row 14 (codes "redo")
-verb_row UndoAll = row 15 (codes "undo_all")
-verb_row RedoAll = row 16 (codes "redo_all")
+verb_row Rec = verb_line 0 (codes "record")
+verb_row Overdub = verb_line 1 (codes "overdub")
+verb_row Multiply = verb_line 2 (codes "multiply")
+verb_row Insert = verb_line 3 (codes "insert")
+verb_row Replace = verb_line 4 (codes "replace")
+verb_row Substitute = verb_line 5 (codes "substitute")
+verb_row Mute = verb_line 6 (codes "mute")
+verb_row MuteOn = verb_line 7 (codes "mute_on")
+verb_row MuteOff = verb_line 8 (codes "mute_off")
+verb_row OneShot = verb_line 9 (codes "oneshot")
+verb_row Trigger = verb_line 10 (codes "trigger")
+verb_row Reverse = verb_line 11 (codes "reverse")
+verb_row Pause = verb_line 12 (codes "pause")
+verb_row Undo = verb_line 13 (codes "undo")
+verb_row Redo = verb_line 14 (codes "redo")
+verb_row UndoAll = verb_line 15 (codes "undo_all")
+verb_row RedoAll = verb_line 16 (codes "redo_all")
 
 -- the name of a verb, in messages and texts
 abbrev pub verb_name : Verb → List ℕ

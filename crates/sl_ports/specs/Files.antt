@@ -9,10 +9,6 @@ use Rattle.std.specs.Str.{bytes_eq}
 abbrev pub Files : Type 0
 Files = List ℕ → Option (List ℕ)
 
--- no file under any name
-abbrev pub no_files : Files
-no_files name = None
-
 -- the files after one was written
 abbrev pub put : Files → List ℕ → List ℕ → Files
 put files name bytes = λ other. if bytes_eq name other then Some bytes else files other

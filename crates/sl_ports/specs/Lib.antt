@@ -6,3 +6,4 @@ pub mod Keeping
 pub mod Calls
 pub mod MemoryEnds
 pub mod RealEnds
+pub mod Transfers

@@ -6,6 +6,8 @@
 //! - A keeper has files by name. A reading changes no file, and a write changes the one that it names, or none.
 //! - What a sink holds and a keeper has is told by those in memory. Nothing is said of it where it isn't told.
 //! - Want of memory is an answer of its own, and no count tells of it.
+//! - `MemSink` and `MemKeeper` stand in memory, and fail at the calls whose numbers they are given. `StdSink` and
+//!   `DirKeeper` are the real ones.
 //!
 //! Begin with `sinks` and `keepers`. The rules are "The outside" in docs/rules.md.
 #![tactic(auto)]

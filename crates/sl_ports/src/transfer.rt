@@ -1,6 +1,9 @@
 //! Whole files and texts through the system's reads and writes, each of which may take a part.
 
+ghost use Rattle.std.specs.Prelude.{OnOk};
 ghost use Rattle.std.specs.Io.{ReadsAtMost, WritesAtMost};
+ghost use Rattle.std.specs.Io.KnownBytes.{Appends, ReadConsumes, WriteAppends};
+ghost use Rattle.sl_ports.specs.Transfers.{ReadsWhole};
 
 use crate::keepers::FileAnswer;
 use std::alloc::Global;
@@ -16,12 +19,17 @@ const PIECE: usize = 65536;
 
 // One read. What a signal breaks off is tried again.
 fn read_piece<F: Read>(file: &mut F, piece: &mut [u8]) -> io::Result<usize>
-    ensures { ReadsAtMost result piece.new }
+    ensures within { ReadsAtMost result piece.new }
+    ensures value { ReadConsumes (F.remaining file.old) (F.remaining file.new) result piece.new }
 {
-    for _ in 0..u64::MAX {
+    'tries: for _ in 0..u64::MAX {
         match file.read(piece) {
-            Err(e) if e.kind() == ErrorKind::Interrupted => {}
-            other => return other,
+            Ok(count) => return Ok(count),
+            Err(e) => {
+                if e.kind() != ErrorKind::Interrupted {
+                    return Err(e);
+                }
+            }
         }
     }
     Err(io::Error::from(ErrorKind::Interrupted))
@@ -29,19 +37,26 @@ fn read_piece<F: Read>(file: &mut F, piece: &mut [u8]) -> io::Result<usize>
 
 // One write. What a signal breaks off is tried again.
 fn write_piece<W: Write>(to: &mut W, piece: &[u8]) -> io::Result<usize>
-    ensures { WritesAtMost result piece.now }
+    ensures within { WritesAtMost result piece.now }
+    ensures value { WriteAppends (W.contents to.old) (W.contents to.new) result piece.now }
 {
-    for _ in 0..u64::MAX {
+    'tries: for _ in 0..u64::MAX {
         match to.write(piece) {
-            Err(e) if e.kind() == ErrorKind::Interrupted => {}
-            other => return other,
+            Ok(count) => return Ok(count),
+            Err(e) => {
+                if e.kind() != ErrorKind::Interrupted {
+                    return Err(e);
+                }
+            }
         }
     }
     Err(io::Error::from(ErrorKind::Interrupted))
 }
 
 /// Reads an open file to its end. Its length is reserved at once, so that its memory is not doubled on the way.
-pub fn read_whole<F: Read + OpenFile>(alloc: Global, file: &mut F) -> FileAnswer {
+pub fn read_whole<F: Read + OpenFile>(alloc: Global, file: &mut F) -> FileAnswer
+    ensures { ReadsWhole (F.remaining file.old) result }
+{
     let length = match file.metadata() {
         Ok(metadata) => metadata.len(),
         Err(_) => 0,
@@ -50,7 +65,7 @@ pub fn read_whole<F: Read + OpenFile>(alloc: Global, file: &mut F) -> FileAnswer
         return FileAnswer::Memory;
     };
     let mut piece = [0; PIECE];
-    for _ in 0..TURNS {
+    'turns: for _ in 0..TURNS {
         match read_piece(file, &mut piece) {
             Ok(0) => return FileAnswer::Bytes(bytes),
             Ok(count) => {
@@ -66,10 +81,13 @@ pub fn read_whole<F: Read + OpenFile>(alloc: Global, file: &mut F) -> FileAnswer
 }
 
 /// Writes all of the bytes. To take none of a piece that has some is an error.
-pub fn write_whole<W: Write>(to: &mut W, bytes: &[u8]) -> io::Result<()> {
+pub fn write_whole<W: Write>(to: &mut W, bytes: &[u8]) -> io::Result<()>
+    ensures { OnOk result (Appends (W.contents to.old) (W.contents to.new) bytes.now) }
+{
     let mut done = 0;
     while done < bytes.len() {
-        let count = write_piece(to, &bytes[done..])?;
+        let (_, rest) = bytes.split_at(done);
+        let count = write_piece(to, rest)?;
         if count == 0 {
             return Err(io::Error::from(ErrorKind::WriteZero));
         }

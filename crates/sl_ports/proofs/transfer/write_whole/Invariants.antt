@@ -1,9 +1,13 @@
-use Rattle.std.proofs.Common.{◌-◌, ◌≤◌, length}
+use Rattle.std.proofs.Common.{◌-◌, ◌≤◌, length, take}
+use Rattle.std.specs.Io.KnownBytes.{Appends}
 use Rattle.sl_ports.proofs.transfer.write_whole.Given as goal
 
--- what is done lies within the bytes
+-- what is done lies within the bytes, and was written
 abbrev pub invariant-loop-done : goal.invariant-loop-done
-invariant-loop-done g l = l.done ≤ length l.bytes
+invariant-loop-done g l = record {
+  within : l.done ≤ length l.bytes;
+  written : Appends (g.W.Write.contents l.fn.to) (g.W.Write.contents l.to) (take l.done l.bytes);
+}
 
 -- the bytes that are left
 abbrev pub decreases-loop-done : goal.decreases-loop-done

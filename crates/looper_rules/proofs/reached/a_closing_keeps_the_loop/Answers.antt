@@ -1,0 +1,5 @@
+use Rattle.looper_rules.proofs.KeptClosing.{closed_keeps}
+use Rattle.looper_rules.proofs.reached.a_closing_keeps_the_loop.Goals as goal
+
+pub returns : goal.returns
+returns c a l h writing = closed_keeps writing h

@@ -1,0 +1,2 @@
+pub mod WavTextLemmas
+pub mod Mono16Lemmas

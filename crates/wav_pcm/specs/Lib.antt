@@ -1,0 +1,2 @@
+pub mod WavText
+pub mod Mono16

@@ -1,0 +1,59 @@
+//! Two files whose bytes are known, and the calls with ample memory.
+
+use super::*;
+use sl_base::{Frame, widen};
+use std::alloc::{AllocError, Global};
+use std::test::Fail;
+
+/// The samples 1 to 8 of 16 bits in one channel, at 48000 frames a second.
+const EIGHT_SAMPLES: &[u8] =
+    b"RIFF\x34\0\0\0WAVEfmt \x10\0\0\0\x01\0\x01\0\x80\xbb\0\0\0\x77\x01\0\x02\0\x10\0data\x10\0\0\0\x01\0\x02\0\x03\0\x04\0\x05\0\x06\0\x07\0\x08\0";
+
+/// The samples 256, 512, 768 and 1024 of 24 bits on both sides, at 48000 frames a second.
+const FOUR_FRAMES: &[u8] =
+    b"RIFF\x3c\0\0\0WAVEfmt \x10\0\0\0\x01\0\x02\0\x80\xbb\0\0\0\x65\x04\0\x06\0\x18\0data\x18\0\0\0\0\x01\0\0\x01\0\0\x02\0\0\x02\0\0\x03\0\0\x03\0\0\x04\0\0\x04\0";
+
+/// Frames with these samples of 16 bits on both sides.
+fn frames_of(alloc: Global, samples: &[i16]) -> Result<Vec<Frame>, AllocError> {
+    let mut frames = Vec::new(alloc);
+    for sample in samples {
+        let side = widen(*sample);
+        frames.push(Frame {
+            left: side,
+            right: side,
+        })?;
+    }
+    Ok(frames)
+}
+
+#[test]
+fn eight_samples_are_written_and_read(rt: HostRuntime) -> Result<(), Fail> {
+    let frames = frames_of(rt.alloc(), &[1, 2, 3, 4, 5, 6, 7, 8])?;
+    assert!(rt; frames.len() <= 8);
+    let text = wav_text(rt.alloc(), &frames, 1, 16, 48000)
+        .ok()
+        .ok_or("no memory")?;
+    assert_eq!(rt; text.as_slice(), EIGHT_SAMPLES);
+    let read = read_mono16(rt.alloc(), EIGHT_SAMPLES)
+        .ok()
+        .ok_or("no memory")?;
+    let wav = read.ok_or("not read")?;
+    assert_eq!(rt; (wav.rate, wav.channels, wav.bits), (48000, 1, 16));
+    assert_eq!(rt; wav.frames.as_slice(), frames.as_slice());
+    Ok(())
+}
+
+#[test]
+fn four_frames_of_24_bits_are_written(rt: HostRuntime) -> Result<(), Fail> {
+    let frames = frames_of(rt.alloc(), &[1, 2, 3, 4])?;
+    assert!(rt; frames.len() <= 4);
+    let text = wav_text(rt.alloc(), &frames, 2, 24, 48000)
+        .ok()
+        .ok_or("no memory")?;
+    assert_eq!(rt; text.as_slice(), FOUR_FRAMES);
+    let read = read_mono16(rt.alloc(), FOUR_FRAMES)
+        .ok()
+        .ok_or("no memory")?;
+    assert!(rt; read.is_none());
+    Ok(())
+}
