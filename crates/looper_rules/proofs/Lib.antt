@@ -30,3 +30,12 @@ pub mod KeptSettings
 pub mod KeptEntries
 pub mod KeptRuns
 pub mod KeptStarts
+pub mod StackChanges
+pub mod StackSteps
+pub mod LoopChanges
+pub mod FrameChanges
+pub mod OtherLemmas
+pub mod RefusalLemmas
+pub mod VerbOpenings
+pub mod UndoLemmas
+pub mod SharingLemmas

@@ -25,6 +25,9 @@ pub mod Questions
 pub mod Pins
 pub mod States
 pub mod Reached
+pub mod OtherLayers
+pub mod Undoing
+pub mod Sharing
 pub mod Worked
 pub mod OneLoop
 pub mod SingleRun

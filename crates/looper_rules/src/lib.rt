@@ -7,6 +7,8 @@
 //! - `specs/Cuts` to `specs/Pins` have what the laws of runs speak of: the parts of a run, an entry's place in it, what is
 //!   asked and answered, and what holds a list that is saved.
 //! - `specs/States` has what holds of every loop and looper that a run reaches, `specs/Reached` what makes it last.
+//! - `specs/OtherLayers`, `specs/Undoing` and `specs/Sharing` say what laws say of the layers that aren't the current one, of
+//!   undo and redo, and of the chunks that loops share.
 //! - `specs/OneLoop` has the single loop that `render` plays: it records between two hits and then repeats.
 //!   `specs/SingleRun` says where it is a looper of one loop.
 //!
@@ -17,6 +19,7 @@
 mod cut_runs;
 mod one_loop;
 mod one_loop_law;
+mod other_layers;
 mod reached;
 mod replies;
 mod runs_of_controls;
@@ -24,6 +27,8 @@ mod runs_of_lengths;
 mod runs_of_loops;
 mod runs_of_one_loop;
 mod saved_lists;
+mod shared_room;
+mod undoing;
 
 pub use cut_runs::{
     a_run_cut_at_a_frame_is_the_run, a_run_cut_at_an_entry_is_the_run,
@@ -33,6 +38,9 @@ pub use cut_runs::{
 pub use one_loop::OneMode;
 pub use one_loop_law::{
     hits_that_record_once_are_a_journal, the_single_loop_is_a_looper_of_one_loop,
+};
+pub use other_layers::{
+    a_get_changes_nothing, a_refused_opening_is_counted_alone, only_the_current_layer_changes,
 };
 pub use reached::{
     a_closing_keeps_the_loop, a_frame_keeps_the_loop, a_frame_keeps_the_looper,
@@ -64,4 +72,12 @@ pub use runs_of_one_loop::{
 pub use saved_lists::{
     a_pin_holds_its_list_until_the_release, a_save_is_what_its_entry_met, no_save_changes_later,
     saves_are_numbered_in_order, saves_are_those_at_their_entries,
+};
+pub use shared_room::{
+    a_reached_looper_shares_its_chunks, the_room_that_passes_on_is_what_the_others_leave,
+    what_is_done_to_a_loop_stays_in_reach,
+};
+pub use undoing::{
+    a_writing_verb_opens_a_loop, redo_gives_back_the_layer_that_undo_moved,
+    undo_gives_back_the_list_before_an_opening,
 };

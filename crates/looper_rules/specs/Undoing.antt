@@ -1,0 +1,63 @@
+-- A loop is opened by `record` with an empty layer, and by the other writing verbs with a copy of its list (forward alone
+-- by multiply and insert), once an open layer is closed. The layer
+-- stays open through frames after which the mode is still a writing one, through saves, and through whatever leaves mode
+-- and layers as they are: sets and gets, releases, presses, a verb that begins to wait, a turn of the direction.
+-- Undo closes an open layer before it moves it: no cell is fresh any more, base and base seams are gone, it ends at the
+-- tape, and it has the seams that it had.
+-- "Opening" and "History: undo and redo" in docs/rules.md.
+use Rattle.std.specs.Prelude.{◌≡◌, ℕ, Bool, false, IsTrue, List, [], ◌∷◌, Option, Some, None}
+use Rattle.sl_base.specs.Sounds.{Sound}
+use Rattle.sl_commands.specs.declared.Verb.{Verb}
+use Rattle.sl_commands.specs.declared.Verb.TheVariants.{Overdub, Multiply, Insert, Replace, Substitute}
+use Rattle.sl_commands.specs.declared.Mode.{Mode}
+use Rattle.sl_commands.specs.declared.Mode.TheVariants.{Overdubbing, Multiplying, Inserting, Replacing, Substituting}
+use Rattle.sl_commands.specs.declared.Started.TheVariants.{Ok}
+use Rattle.looper_rules.specs.Layers.{Layer, unmarked}
+use Rattle.looper_rules.specs.Loop.{Loop, is_writing, with_stack}
+use Rattle.looper_rules.specs.Starting.{records, layers_on}
+use Rattle.looper_rules.specs.LoopFrame.{ready, after}
+use Rattle.looper_rules.specs.Saves.{pinned}
+
+-- one frame of a loop
+abbrev pub frame_later : Sound → ℕ → Loop Sound → Loop Sound
+frame_later x reach l = after x reach (ready x reach l)
+
+-- the mode for which a verb opens a copy of the list in this direction
+abbrev pub opens_as : Verb → Bool → Option Mode
+opens_as Overdub backward = Some Overdubbing
+opens_as Replace backward = Some Replacing
+opens_as Substitute backward = Some Substituting
+opens_as Multiply false = Some Multiplying
+opens_as Insert false = Some Inserting
+opens_as _ _ = None
+
+-- the loop was opened, for `record` or for the writing verb of a mode
+pub data IsOpenedFrom (before : Loop Sound) : Loop Sound → Type 0 where
+  for_record : IsOpenedFrom before (records Ok before)
+  for_mode : (mode : Mode) → IsTrue (is_writing mode) → IsOpenedFrom before (layers_on Ok mode before)
+
+-- the layer that is open in the first loop is still open in the second
+pub data StaysOpen (first : Loop Sound) : Loop Sound → Type 0 where
+  at_once : StaysOpen first first
+  through_frame : (x : Sound) → (reach : ℕ) → (now : Loop Sound) → StaysOpen first now →
+      IsTrue (is_writing (frame_later x reach now).deck.mode) → StaysOpen first (frame_later x reach now)
+  through_save : (now : Loop Sound) → StaysOpen first now → StaysOpen first (with_stack (pinned now.stack) now)
+  aside : (now next : Loop Sound) → StaysOpen first now →
+      next.deck.mode ≡ now.deck.mode → next.stack.layers ≡ now.stack.layers → StaysOpen first next
+
+-- a layer that was open, closed on a tape of this length
+pub record IsClosedOn (tape : ℕ) (was now : Layer Sound) : Type 0 where
+  pub not_fresh : now.cells ≡ unmarked now.cells
+  pub no_base : now.base ≡ []
+  pub no_base_seams : now.base_seams ≡ 0
+  pub end : now.end ≡ tape
+  pub seams : now.seams ≡ was.seams
+
+-- the current one of these layers, closed on a tape of this length, stands on the others
+pub record StandsClosed (tape : ℕ) (was now : List (Layer Sound)) : Type 0 where
+  pub opened : Layer Sound
+  pub closed : Layer Sound
+  pub below : List (Layer Sound)
+  pub before : was ≡ opened ∷ below
+  pub after : now ≡ closed ∷ below
+  pub closes : IsClosedOn tape opened closed
