@@ -1,28 +1,27 @@
 -- Each reply and each save of a run comes with one of its entries.
-use Rattle.std.proofs.Common.{◌≡◌, ℕ, ◌+◌, ◌≤◌, ◌<◌, List, [], ◌∷◌, ◌++◌, length, get_or, take, drop, Option, Some, None, option_to_list, refl, sym, ap, ◌∙◌, subst, subst₂, append_assoc, append-nil, length-append, arith}
-use Rattle.std.specs.List.{All, AllPairs}
-use Rattle.std.proofs.lemmas.List.{take-take, get_or_append_left}
+use Rattle.std.proofs.Common.{◌≡◌, ℕ, ◌+◌, ◌≤◌, List, [], ◌∷◌, ◌++◌, get_or, take, drop, Option, Some, None, option_to_list, refl, sym, ap, ◌∙◌, subst, append_assoc, append-nil}
+use Rattle.std.specs.List.{All}
+use Rattle.std.proofs.lemmas.List.{take-take}
 use Rattle.std.proofs.lemmas.List.Elements.{All-head, All-cons, All-nil, All-append, All-weaker, All-same}
 use Rattle.sl_base.specs.Sounds.{Sound}
 use Rattle.sl_commands.specs.declared.Entry.{Entry}
+use Rattle.sl_commands.specs.Entries.{FramesNeverFall}
 use Rattle.sl_commands.specs.Settings.{LooperSettings}
 use Rattle.looper_rules.specs.Looper.{Looper}
 use Rattle.looper_rules.specs.Entries.{applied, reply, save}
 use Rattle.looper_rules.specs.Frame.{framed}
 use Rattle.looper_rules.specs.Run.{begun, Ran, run, start}
-use Rattle.looper_rules.specs.Cuts.{run_from, FramesNeverFall}
+use Rattle.looper_rules.specs.Cuts.{run_from}
 use Rattle.looper_rules.specs.Places.{place_of, run_before, met, run_behind, run_around, ComesWithEntry}
 use Rattle.looper_rules.specs.Questions.{AnswersInTime}
 use Rattle.looper_rules.proofs.PlaceLemmas.{run-around, before_is_before, all_right}
 use Rattle.looper_rules.proofs.ReplyLemmas.{all_left, start-asked_before}
 use Rattle.looper_rules.proofs.CutLemmas.{run-run_from}
 
--- what holds of all pairs of two lists holds of those of the first
-pairs_left : {A : Type 0} (R : A → A → Type 0) (xs ys : List A) → AllPairs R (xs ++ ys) → AllPairs R xs
-pairs_left R xs ys all i j d below inside =
-    let long = length-append xs ys in
-    let first : i < length xs = omega arith in
-    subst₂ R (get_or_append_left xs ys d i first) (get_or_append_left xs ys d j inside) (all i j d below (omega arith))
+-- frames that never fall along two lists don't along the first
+front_never_falls : (frame : ℕ) (es more : List Entry) → FramesNeverFall frame (es ++ more) → FramesNeverFall frame es
+front_never_falls frame [] more never = tt
+front_never_falls frame (e ∷ es) more never = (never.0, front_never_falls e.frame es more never.1)
 
 -- without entries there are no replies and no saves
 begun-no_replies : (frame : ℕ) (xs : List Sound) (l : Looper) → (begun frame [] xs l).replies ≡ []
@@ -77,7 +76,7 @@ module _ {X : Type 0} (given : Entry → Looper → Option X) (part : Ran → Li
       let b = get_or es k d in
       take-take b.frame e.frame xs (up_to k d inside) ∙ same k d inside
 
-  comes_more : (es : List Entry) (e : Entry) (input : List Sound) (l : Looper) → FramesNeverFall (es ++ e ∷ []) →
+  comes_more : (es : List Entry) (e : Entry) (input : List Sound) (l : Looper) → FramesNeverFall 0 (es ++ e ∷ []) →
       Comes es input l → Comes (es ++ e ∷ []) input l
   comes_more es e input l never comes xs same =
       let P = ComesWithEntry given (es ++ e ∷ []) input l in
@@ -90,34 +89,34 @@ module _ {X : Type 0} (given : Entry → Looper → Option X) (part : Ran → Li
       let whole = ap part (run-around es e [] xs l never) ∙ around es e [] xs l ∙ ap (λ more. part (run_before es e xs l) ++ (option_to_list (given e (met es e xs l)) ++ more)) behind in
       All-same P _ _ whole (All-append P _ _ front (All-append P _ _ middle (All-nil P)))
 
-  comes_all : (es rest : List Entry) (input : List Sound) (l : Looper) → FramesNeverFall (es ++ rest) →
+  comes_all : (es rest : List Entry) (input : List Sound) (l : Looper) → FramesNeverFall 0 (es ++ rest) →
       Comes es input l → Comes (es ++ rest) input l
   comes_all es [] input l never comes = subst (λ all. Comes all input l) (sym (append-nil es)) comes
   comes_all es (e ∷ rest) input l never comes =
       let joins = append_assoc es (e ∷ []) rest in
-      let whole = subst FramesNeverFall (sym joins) never in
-      subst (λ all. Comes all input l) joins (comes_all (es ++ e ∷ []) rest input l whole (comes_more es e input l (pairs_left (λ a b. a.frame ≤ b.frame) (es ++ e ∷ []) rest whole) comes))
+      let whole = subst (λ all. FramesNeverFall 0 all) (sym joins) never in
+      subst (λ all. Comes all input l) joins (comes_all (es ++ e ∷ []) rest input l whole (comes_more es e input l (front_never_falls 0 (es ++ e ∷ []) rest whole) comes))
 
-  pub all_come : (es : List Entry) (input : List Sound) (l : Looper) → FramesNeverFall es →
+  pub all_come : (es : List Entry) (input : List Sound) (l : Looper) → FramesNeverFall 0 es →
       All (ComesWithEntry given es input l) (part (run es input l))
   all_come es input l never =
       let start : Comes [] input l = λ xs same. All-same (ComesWithEntry given [] input l) _ [] (ap part (run-run_from [] xs l) ∙ none 0 xs l) (All-nil (ComesWithEntry given [] input l)) in
       comes_all [] es input l never start input (λ k d inside. refl)
 
 -- each reply of a run comes with one of its entries, and so does each save
-pub replies_come : (es : List Entry) (input : List Sound) (l : Looper) → FramesNeverFall es →
+pub replies_come : (es : List Entry) (input : List Sound) (l : Looper) → FramesNeverFall 0 es →
     All (ComesWithEntry reply es input l) (run es input l).replies
 replies_come es input l never =
     all_come reply (λ r. r.replies) (λ before e after input l. refl) run_from-no_replies es input l never
 
-pub saves_come : (es : List Entry) (input : List Sound) (l : Looper) → FramesNeverFall es →
+pub saves_come : (es : List Entry) (input : List Sound) (l : Looper) → FramesNeverFall 0 es →
     All (ComesWithEntry save es input l) (run es input l).saves
 saves_come es input l never =
     all_come save (λ r. r.saves) (λ before e after input l. refl) run_from-no_saves es input l never
 
 -- each reply of a run from its start answers the entry with which it comes, or one before it
 pub start-answers : (settings : LooperSettings) (chunks : ℕ) (initial : List (List Sound)) (es : List Entry) (input : List Sound) →
-    FramesNeverFall es →
+    FramesNeverFall 0 es →
     All (AnswersInTime es input (start settings chunks initial)) (run es input (start settings chunks initial)).replies
 start-answers settings chunks initial es input never =
     let l = start settings chunks initial in

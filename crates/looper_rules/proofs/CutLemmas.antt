@@ -1,17 +1,17 @@
 -- A run may be cut into two at any frame.
-use Rattle.std.proofs.Common.{◌≡◌, ℕ, suc, ◌+◌, ◌≤◌, ◌<◌, Bool, true, false, List, [], ◌∷◌, ◌++◌, length, if◌then◌else◌, nat_le, nat_lt, IsTrue, refl, sym, ap, ap₂, ◌∙◌, append_assoc, append-nil, add-zero, zero-add, length-append, le_trans, le_of_lt, ⊎_elim, arith}
+use Rattle.std.proofs.Common.{◌≡◌, ℕ, ◌+◌, ◌≤◌, ◌<◌, Bool, true, false, List, [], ◌∷◌, ◌++◌, length, if◌then◌else◌, nat_le, nat_lt, IsTrue, refl, sym, ap, ap₂, ◌∙◌, append_assoc, append-nil, add-zero, zero-add, length-append, le_trans, le_of_lt, ⊎_elim, arith}
 use Rattle.std.specs.List.{All, filter}
 use Rattle.std.proofs.lemmas.List.Elements.{All-head, All-tail, All-cons, All-nil, All-weaker}
-use Rattle.std.proofs.lemmas.Bool.{le-leb, lt-leb, lt-ltb, le-ltb, leb-true, ltb-true, cases_lt, and_parts}
-use Rattle.std.proofs.lemmas.List.Kept.{AllPairs-cons}
+use Rattle.std.proofs.lemmas.Bool.{le-leb, lt-leb, lt-ltb, le-ltb, leb-true, ltb-true, cases_lt}
 use Rattle.sl_base.specs.Sounds.{Sound}
 use Rattle.sl_commands.specs.declared.Entry.{Entry}
-use Rattle.sl_commands.specs.Entries.{are_stamped, are_stamped_behind, may_be_next, last_frame, last_frame_from}
+use Rattle.sl_commands.specs.Entries.{FramesNeverFall, are_stamped}
+use Rattle.sl_commands.proofs.EntriesLemmas.{stamped_is_in_order}
 use Rattle.looper_rules.specs.Looper.{Looper}
 use Rattle.looper_rules.specs.Entries.{applied, reply, save}
 use Rattle.looper_rules.specs.Frame.{framed}
 use Rattle.looper_rules.specs.Run.{Entered, entered, entered_before, due, later, Begun, begun, begun_before, Ran, ended, ended_with, run}
-use Rattle.looper_rules.specs.Cuts.{run_from, continued, followed_by, joined, begun_on, run_on, ran_on, with_more_left, FramesNeverFall, entries_before, entries_from}
+use Rattle.looper_rules.specs.Cuts.{run_from, continued, followed_by, joined, begun_on, run_on, ran_on, with_more_left, entries_before, entries_from}
 
 -- what one frame gave stands in front of all that comes behind it
 begun_before-continued : (before : Entered) (out : Sound) (first next : Begun) →
@@ -256,15 +256,22 @@ filter_passes test (x ∷ xs) = by_test (test x) refl (filter_passes test xs)
     by_test true is rest = All-cons (λ x. test x ≡ true) x (filter test xs) is rest
     by_test false is rest = rest
 
--- of entries whose frames never fall, the first isn't behind the others, and the others' frames never fall
-pub first_is_first : (e : Entry) (es : List Entry) → FramesNeverFall (e ∷ es) → All (λ b. e.frame ≤ b.frame) es
-first_is_first e es never place d inside = never 0 (suc place) d (omega arith) (omega arith)
+-- frames that never fall from one on are none below it
+none_is_below : (frame : ℕ) (es : List Entry) → FramesNeverFall frame es → All (λ b. frame ≤ b.frame) es
+none_is_below frame [] never = All-nil (λ b. frame ≤ b.frame)
+none_is_below frame (e ∷ es) never =
+    All-cons (λ b. frame ≤ b.frame) e es never.0 (All-weaker (λ b. e.frame ≤ b.frame) (λ b. frame ≤ b.frame) (λ b h. le_trans never.0 h) es (none_is_below e.frame es never.1))
 
-pub others_never_fall : (e : Entry) (es : List Entry) → FramesNeverFall (e ∷ es) → FramesNeverFall es
-others_never_fall e es never i j d below inside = never (suc i) (suc j) d (omega arith) (omega arith)
+-- of entries whose frames never fall, the first isn't behind the others, and the others' frames never fall
+pub first_is_first : (e : Entry) (es : List Entry) → FramesNeverFall 0 (e ∷ es) → All (λ b. e.frame ≤ b.frame) es
+first_is_first e es never = none_is_below e.frame es never.1
+
+pub others_never_fall : (e : Entry) (es : List Entry) → FramesNeverFall 0 (e ∷ es) → FramesNeverFall 0 es
+others_never_fall e [] never = tt
+others_never_fall e (b ∷ es) never = (omega arith, never.1.1)
 
 -- entries whose frames never fall are those before a frame, and behind them those from it on
-pub entries-split : (frame : ℕ) (es : List Entry) → FramesNeverFall es →
+pub entries-split : (frame : ℕ) (es : List Entry) → FramesNeverFall 0 es →
     es ≡ entries_before frame es ++ entries_from frame es
 entries-split frame [] never = refl
 entries-split frame (e ∷ es) never =
@@ -281,32 +288,12 @@ entries-split frame (e ∷ es) never =
         let behind = filter_all (λ e. nat_le frame e.frame) es (All-weaker (λ b. e.frame ≤ b.frame) (λ b. nat_le frame b.frame ≡ true) (λ b h. le-leb frame b.frame (le_trans is h)) es first) in
         rw (le-ltb e.frame frame is, le-leb frame e.frame is, not_before, behind) refl
 
--- the last of some entries is the one put behind them
-last_frame_from-push : (frame : ℕ) (before : List Entry) (e : Entry) →
-    last_frame_from frame (before ++ e ∷ []) ≡ e.frame
-last_frame_from-push frame [] e = refl
-last_frame_from-push frame (b ∷ before) e = last_frame_from-push b.frame before e
-
--- frames of entries stamped behind others aren't below the last of those, and never fall
-stamped_behind : (before es : List Entry) → are_stamped_behind before es ≡ true →
-    All (λ e. last_frame before ≤ e.frame) es × FramesNeverFall es
-stamped_behind before [] stamped =
-    (All-nil (λ e. last_frame before ≤ e.frame), λ i j d below inside. absurd (omega arith))
-stamped_behind before (e ∷ es) stamped =
-    let parts = and_parts (may_be_next before e) (are_stamped_behind (before ++ e ∷ []) es) stamped in
-    let in_order = leb-true (last_frame before) e.frame (and_parts (nat_le (last_frame before) e.frame) _ parts.0).0 in
-    let rest = stamped_behind (before ++ e ∷ []) es parts.1 in
-    let behind = rw (last_frame_from-push 0 before e) at rest.0 in (
-      All-cons (λ e. last_frame before ≤ e.frame) e es in_order (All-weaker (λ b. e.frame ≤ b.frame) (λ b. last_frame before ≤ b.frame) (λ b h. le_trans in_order h) es behind),
-      AllPairs-cons (λ a b. a.frame ≤ b.frame) e es behind rest.1,
-    )
-
 -- frames of stamped entries never fall
-pub stamped_never_fall : (es : List Entry) → IsTrue (are_stamped es) → FramesNeverFall es
-stamped_never_fall es stamped = (stamped_behind [] es stamped).1
+pub stamped_never_fall : (es : List Entry) → IsTrue (are_stamped es) → FramesNeverFall 0 es
+stamped_never_fall es stamped = (stamped_is_in_order es stamped).frames
 
 -- a run is that of the entries before the cut's frame, and behind it that of the others
-pub run_from-split : (frame : ℕ) (es : List Entry) (xs ys : List Sound) (l : Looper) → FramesNeverFall es →
+pub run_from-split : (frame : ℕ) (es : List Entry) (xs ys : List Sound) (l : Looper) → FramesNeverFall 0 es →
     run_from frame es (xs ++ ys) l ≡ ran_on (frame + length xs) (run_from frame (entries_before (frame + length xs) es) xs l) (entries_from (frame + length xs) es) ys
 run_from-split frame es xs ys l never =
     let cut = frame + length xs in
@@ -330,7 +317,7 @@ run-more first next input l from =
     let long = All-weaker (λ e. length input ≤ e.frame) (λ e. 0 + length input ≤ e.frame) (λ e h. omega arith) next from in
     run-run_from (first ++ next) input l ∙ run_from-more 0 first next input l long ∙ ap₂ (λ n r. ran_on n r next []) (zero-add (length input)) (sym (run-run_from first input l))
 
-pub run-split : (es : List Entry) (xs ys : List Sound) (l : Looper) → FramesNeverFall es →
+pub run-split : (es : List Entry) (xs ys : List Sound) (l : Looper) → FramesNeverFall 0 es →
     run es (xs ++ ys) l ≡ ran_on (length xs) (run (entries_before (length xs) es) xs l) (entries_from (length xs) es) ys
 run-split es xs ys l never =
     run-run_from es (xs ++ ys) l

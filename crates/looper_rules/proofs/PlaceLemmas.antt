@@ -7,10 +7,11 @@ use Rattle.std.proofs.lemmas.Bool.{cases_lt}
 use Rattle.std.proofs.Math.Seq.{take-append_seam}
 use Rattle.sl_base.specs.Sounds.{Sound}
 use Rattle.sl_commands.specs.declared.Entry.{Entry}
+use Rattle.sl_commands.specs.Entries.{FramesNeverFall}
 use Rattle.looper_rules.specs.Looper.{Looper}
 use Rattle.looper_rules.specs.Entries.{applied, reply, save}
 use Rattle.looper_rules.specs.Run.{entered, Ran, run, begun}
-use Rattle.looper_rules.specs.Cuts.{run_from, joined, FramesNeverFall}
+use Rattle.looper_rules.specs.Cuts.{run_from, joined}
 use Rattle.looper_rules.specs.Places.{given_then, run_around, BeginsWith}
 use Rattle.looper_rules.proofs.CutLemmas.{run_from-due, run_from-due_no_frames, run-cut, run-more, run_from-append, first_is_first, others_never_fall, with_entered}
 
@@ -21,7 +22,7 @@ all_right P (x ∷ xs) ys all = all_right P xs ys (All-tail P x (xs ++ ys) all)
 
 -- of entries whose frames never fall, those in front of one aren't behind it
 pub before_is_before : (before : List Entry) (e : Entry) (after : List Entry) →
-    FramesNeverFall (before ++ e ∷ after) → All (λ b. b.frame ≤ e.frame) before
+    FramesNeverFall 0 (before ++ e ∷ after) → All (λ b. b.frame ≤ e.frame) before
 before_is_before [] e after never = All-nil (λ b. b.frame ≤ e.frame)
 before_is_before (b ∷ before) e after never =
     let later_ones = all_right (λ x. b.frame ≤ x.frame) before (e ∷ after) (first_is_first b (before ++ e ∷ after) never) in
@@ -29,7 +30,7 @@ before_is_before (b ∷ before) e after never =
 
 -- and those behind it aren't before it
 pub behind_is_behind : (before : List Entry) (e : Entry) (after : List Entry) →
-    FramesNeverFall (before ++ e ∷ after) → All (λ b. e.frame ≤ b.frame) (e ∷ after)
+    FramesNeverFall 0 (before ++ e ∷ after) → All (λ b. e.frame ≤ b.frame) (e ∷ after)
 behind_is_behind [] e after never =
     All-cons (λ b. e.frame ≤ b.frame) e after (le_refl e.frame) (first_is_first e after never)
 behind_is_behind (b ∷ before) e after never =
@@ -47,7 +48,7 @@ around_at frame before e after xs ys l =
     joined first (given_then (reply e first.looper) (save e first.looper) (run_from frame after ys (applied frame e first.looper)))
 
 around_inside : (before : List Entry) (e : Entry) (after : List Entry) (xs ys : List Sound) (l : Looper) →
-    e.frame ≡ length xs → FramesNeverFall (before ++ e ∷ after) →
+    e.frame ≡ length xs → FramesNeverFall 0 (before ++ e ∷ after) →
     run (before ++ e ∷ after) (xs ++ ys) l ≡ around_at (length xs) before e after xs ys l
 around_inside before e after xs ys l here never =
     let there = (run before xs l).looper in
@@ -59,7 +60,7 @@ around_inside before e after xs ys l here never =
     ∙ ap (joined (run before xs l)) (run_from-due (length xs) (e ∷ []) after ys there one ∙ with_entered-one (length xs) e there _)
 
 around_end : (before : List Entry) (e : Entry) (after : List Entry) (input : List Sound) (l : Looper) →
-    length input ≤ e.frame → FramesNeverFall (before ++ e ∷ after) →
+    length input ≤ e.frame → FramesNeverFall 0 (before ++ e ∷ after) →
     run (before ++ e ∷ after) input l ≡ around_at (length input) before e after input [] l
 around_end before e after input l past never =
     let there = (run before input l).looper in
@@ -69,7 +70,7 @@ around_end before e after input l past never =
 
 -- a run is cut at an entry's place
 pub run-around : (before : List Entry) (e : Entry) (after : List Entry) (input : List Sound) (l : Looper) →
-    FramesNeverFall (before ++ e ∷ after) → run (before ++ e ∷ after) input l ≡ run_around before e after input l
+    FramesNeverFall 0 (before ++ e ∷ after) → run (before ++ e ∷ after) input l ≡ run_around before e after input l
 run-around before e after input l never = ⊎_elim past inside (cases_lt (length input) e.frame)
   where
     past : length input < e.frame → run (before ++ e ∷ after) input l ≡ run_around before e after input l

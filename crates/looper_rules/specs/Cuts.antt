@@ -2,8 +2,7 @@
 -- The rest begins at the cut's frame, with the looper and the entries that the first frames left; or, where entries up to
 -- the cut stand in front of those from the cut on, with the looper that the run of the former left, and the latter.
 -- "The run" in docs/rules.md.
-use Rattle.std.specs.Prelude.{ℕ, ◌+◌, ◌≤◌, List, ◌++◌, length, filter, nat_lt, nat_le}
-use Rattle.std.specs.List.{AllPairs}
+use Rattle.std.specs.Prelude.{ℕ, ◌+◌, List, ◌++◌, length, filter, nat_lt, nat_le}
 use Rattle.sl_base.specs.Sounds.{Sound}
 use Rattle.sl_commands.specs.declared.Entry.{Entry}
 use Rattle.looper_rules.specs.Looper.{Looper}
@@ -55,10 +54,6 @@ run_on frame first input = followed_by first (run_from frame first.left input fi
 -- the run of these entries and frames behind a run
 abbrev pub ran_on : ℕ → Ran → List Entry → List Sound → Ran
 ran_on frame first es input = joined first (run_from frame es input first.looper)
-
--- frames never fall along these entries
-abbrev pub FramesNeverFall : List Entry → Type 0
-FramesNeverFall es = AllPairs (λ a b. a.frame ≤ b.frame) es
 
 -- the entries of frames before this one
 abbrev pub entries_before : ℕ → List Entry → List Entry

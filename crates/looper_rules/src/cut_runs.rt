@@ -3,10 +3,10 @@
 ghost use Rattle.std.specs.Prelude.{◌≡◌, ℕ, ◌+◌, ◌≤◌, List, [], ◌∷◌, ◌++◌, length, All, IsTrue};
 ghost use Rattle.sl_base.specs.Sounds.{Sound};
 ghost use Rattle.sl_commands.specs.declared.Entry.{Entry};
-ghost use Rattle.sl_commands.specs.Entries.{are_stamped};
+ghost use Rattle.sl_commands.specs.Entries.{FramesNeverFall, are_stamped};
 ghost use Rattle.looper_rules.specs.Looper.{Looper};
 ghost use Rattle.looper_rules.specs.Run.{begun, run};
-ghost use Rattle.looper_rules.specs.Cuts.{run_from, begun_on, run_on, ran_on, with_more_left, FramesNeverFall, entries_before, entries_from};
+ghost use Rattle.looper_rules.specs.Cuts.{run_from, begun_on, run_on, ran_on, with_more_left, entries_before, entries_from};
 ghost use Rattle.looper_rules.specs.Places.{run_around};
 
 /// Whatever the entries are, frames go on with the looper and the entries that the frames before them left.
@@ -38,14 +38,14 @@ pub fn a_run_cut_between_entries_is_the_run()
 /// Of entries whose frames never fall, as those of stamped ones, the first part has those before the cut's frame and the
 /// rest has the others.
 pub fn a_run_cut_at_a_frame_is_the_run()
-    ensures from { (frame : ℕ) → (es : List Entry) → (xs ys : List Sound) → (l : Looper) → FramesNeverFall es →
+    ensures from { (frame : ℕ) → (es : List Entry) → (xs ys : List Sound) → (l : Looper) → FramesNeverFall 0 es →
         let cut = frame + length xs in
         run_from frame es (xs ++ ys) l ≡ ran_on cut (run_from frame (entries_before cut es) xs l) (entries_from cut es) ys }
-    ensures whole { (es : List Entry) → (xs ys : List Sound) → (l : Looper) → FramesNeverFall es →
+    ensures whole { (es : List Entry) → (xs ys : List Sound) → (l : Looper) → FramesNeverFall 0 es →
         let cut = length xs in
         run es (xs ++ ys) l ≡ ran_on cut (run (entries_before cut es) xs l) (entries_from cut es) ys }
-    ensures entries { (frame : ℕ) → (es : List Entry) → FramesNeverFall es → es ≡ entries_before frame es ++ entries_from frame es }
-    ensures stamped { (es : List Entry) → IsTrue (are_stamped es) → FramesNeverFall es }
+    ensures entries { (frame : ℕ) → (es : List Entry) → FramesNeverFall 0 es → es ≡ entries_before frame es ++ entries_from frame es }
+    ensures stamped { (es : List Entry) → IsTrue (are_stamped es) → FramesNeverFall 0 es }
 {}
 
 /// Entries behind the others, of frames to come, change nothing of what the frames so far gave.
@@ -59,6 +59,6 @@ pub fn entries_to_come_change_nothing_before()
 /// the run of those behind it.
 pub fn a_run_cut_at_an_entry_is_the_run()
     ensures whole { (before : List Entry) → (e : Entry) → (after : List Entry) → (input : List Sound) → (l : Looper) →
-        FramesNeverFall (before ++ e ∷ after) →
+        FramesNeverFall 0 (before ++ e ∷ after) →
         run (before ++ e ∷ after) input l ≡ run_around before e after input l }
 {}

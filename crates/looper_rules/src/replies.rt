@@ -3,12 +3,11 @@
 ghost use Rattle.std.specs.Prelude.{◌≡◌, ℕ, ◌≤◌, Bool, List, [], ◌∷◌, ◌++◌, length, map, filter, All, Contains, count_by, option_to_list, IsTrue};
 ghost use Rattle.sl_base.specs.Sounds.{Sound};
 ghost use Rattle.sl_commands.specs.declared.Entry.{Entry};
-ghost use Rattle.sl_commands.specs.Entries.{are_stamped};
+ghost use Rattle.sl_commands.specs.Entries.{FramesNeverFall, are_stamped};
 ghost use Rattle.sl_commands.specs.Settings.{LooperSettings, are_settings};
 ghost use Rattle.looper_rules.specs.Looper.{Looper};
 ghost use Rattle.looper_rules.specs.Entries.{reply};
 ghost use Rattle.looper_rules.specs.Run.{start, run};
-ghost use Rattle.looper_rules.specs.Cuts.{FramesNeverFall};
 ghost use Rattle.looper_rules.specs.Places.{run_before, met, run_behind, ComesWithEntry};
 ghost use Rattle.looper_rules.specs.Questions.{Question, questions, answered, AnswersInTime, is_of, is_get, valid_ones, SelectsALoop};
 
@@ -24,14 +23,14 @@ pub fn a_frame_comes_out_for_each_that_goes_in()
 /// entered before it or is that entry, and tells what this one asked for.
 pub fn each_reply_answers_a_get_or_a_save_before_it()
     ensures made { (before : List Entry) → (e : Entry) → (after : List Entry) → (input : List Sound) → (l : Looper) →
-        FramesNeverFall (before ++ e ∷ after) →
+        FramesNeverFall 0 (before ++ e ∷ after) →
         (run (before ++ e ∷ after) input l).replies
         ≡ (run_before before e input l).replies
         ++ (option_to_list (reply e (met before e input l)) ++ (run_behind before e after input l).replies) }
-    ensures comes { (es : List Entry) → (input : List Sound) → (l : Looper) → FramesNeverFall es →
+    ensures comes { (es : List Entry) → (input : List Sound) → (l : Looper) → FramesNeverFall 0 es →
         All (ComesWithEntry reply es input l) (run es input l).replies }
     ensures in_time { (settings : LooperSettings) → (chunks : ℕ) → (initial : List (List Sound)) →
-        (es : List Entry) → (input : List Sound) → FramesNeverFall es →
+        (es : List Entry) → (input : List Sound) → FramesNeverFall 0 es →
         let first = start settings chunks initial in
         All (AnswersInTime es input first) (run es input first).replies }
 

@@ -6,12 +6,13 @@ ghost use Rattle.sl_base.specs.Sounds.{Sound};
 ghost use Rattle.sl_commands.specs.declared.Target.{Target};
 ghost use Rattle.sl_commands.specs.declared.Command.TheVariants.{SaveLoop, SaveSession, Release};
 ghost use Rattle.sl_commands.specs.declared.Entry.{Entry};
+ghost use Rattle.sl_commands.specs.Entries.{FramesNeverFall};
 ghost use Rattle.looper_rules.specs.Looper.{Track, Looper, index_of};
 ghost use Rattle.looper_rules.specs.Saves.{Save};
 ghost use Rattle.looper_rules.specs.Entries.{applied, save, track_of, loop_save, session_save};
 ghost use Rattle.looper_rules.specs.Frame.{framed};
 ghost use Rattle.looper_rules.specs.Run.{begun, run};
-ghost use Rattle.looper_rules.specs.Cuts.{run_from, FramesNeverFall};
+ghost use Rattle.looper_rules.specs.Cuts.{run_from};
 ghost use Rattle.looper_rules.specs.Places.{run_before, met, run_behind, ComesWithEntry, BeginsWith};
 ghost use Rattle.looper_rules.specs.Questions.{SelectsALoop};
 ghost use Rattle.looper_rules.specs.Pins.{pins_of, pin_for, PinsStay, PinsStayOrGo, IsNoRelease};
@@ -20,11 +21,11 @@ ghost use Rattle.looper_rules.specs.Pins.{pins_of, pin_for, PinsStay, PinsStayOr
 /// each save comes with an entry, and is what this one saves.
 pub fn saves_are_those_at_their_entries()
     ensures made { (before : List Entry) → (e : Entry) → (after : List Entry) → (input : List Sound) → (l : Looper) →
-        FramesNeverFall (before ++ e ∷ after) →
+        FramesNeverFall 0 (before ++ e ∷ after) →
         (run (before ++ e ∷ after) input l).saves
         ≡ (run_before before e input l).saves
         ++ (option_to_list (save e (met before e input l)) ++ (run_behind before e after input l).saves) }
-    ensures comes { (es : List Entry) → (input : List Sound) → (l : Looper) → FramesNeverFall es →
+    ensures comes { (es : List Entry) → (input : List Sound) → (l : Looper) → FramesNeverFall 0 es →
         All (ComesWithEntry save es input l) (run es input l).saves }
 {}
 
