@@ -1,3 +1,17 @@
+pub mod CutLemmas
+pub mod PlaceLemmas
+pub mod SaveLemmas
+pub mod AskerLemmas
+pub mod PendingLemmas
+pub mod AnswerLemmas
+pub mod ReplyLemmas
+pub mod ComesLemmas
+pub mod OnceLemmas
+pub mod SizeLemmas
+pub mod GetLemmas
+pub mod NumberLemmas
+pub mod PinLemmas
+pub mod StandingPins
 pub mod OneLoopRuns
 pub mod OneLoopStages
 pub mod KeptDecks

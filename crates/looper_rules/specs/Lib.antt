@@ -19,6 +19,10 @@ pub mod Saves
 pub mod Entries
 pub mod Frame
 pub mod Run
+pub mod Cuts
+pub mod Places
+pub mod Questions
+pub mod Pins
 pub mod States
 pub mod Reached
 pub mod OtherLayers
