@@ -19,7 +19,7 @@ ghost use Rattle.looper_rules.specs.Verbs.{acts};
 ghost use Rattle.looper_rules.specs.LoopFrame.{awake};
 ghost use Rattle.looper_rules.specs.Looper.{Looper};
 ghost use Rattle.looper_rules.specs.Entries.{applied};
-ghost use Rattle.looper_rules.specs.Frame.{at_boundaries, framed_from};
+ghost use Rattle.looper_rules.specs.Frame.{at_boundaries, framed};
 ghost use Rattle.looper_rules.specs.Undoing.{frame_later, opens_as};
 ghost use Rattle.looper_rules.specs.OtherLayers.{OthersStay, OthersStayOnAll, CountsRefusal};
 
@@ -28,10 +28,11 @@ pub fn only_the_current_layer_changes()
     ensures verbs { (verb : Verb) → (reach : ℕ) → (l : Loop Sound) → OthersStay l.stack (acts verb reach l).stack }
     ensures frames { (x : Sound) → (reach : ℕ) → (l : Loop Sound) → OthersStay l.stack (frame_later x reach l).stack }
 
-    // Of all loops of a looper: at an entry of any command, and at the two parts of a frame.
+    // Of all loops of a looper: at an entry of any command, and at a frame, where waiting verbs act first.
     ensures entries { (frame : ℕ) → (e : Entry) → (l : Looper) → OthersStayOnAll l.tracks (applied frame e l).tracks }
     ensures boundaries { (frame : ℕ) → (l : Looper) → OthersStayOnAll l.tracks (at_boundaries frame l).tracks }
-    ensures framed { (x : Sound) → (l : Looper) → OthersStayOnAll l.tracks (framed_from x l).looper.tracks }
+    ensures framed { (frame : ℕ) → (x : Sound) → (l : Looper) →
+        OthersStayOnAll (at_boundaries frame l).tracks (framed frame x l).looper.tracks }
 {}
 
 /// A get gives its reply and changes nothing, whether or not it is valid; nor does `quit`.

@@ -1,5 +1,6 @@
 use Rattle.looper_rules.specs.Verbs.{acts}
 use Rattle.looper_rules.specs.Undoing.{frame_later}
+use Rattle.looper_rules.specs.Frame.{at_boundaries}
 use Rattle.looper_rules.proofs.StackChanges.{IsDone}
 use Rattle.looper_rules.proofs.LoopChanges.{acts_done}
 use Rattle.looper_rules.proofs.FrameChanges.{frame_done}
@@ -19,4 +20,4 @@ pub returns-clause-boundaries : goal.returns-clause-boundaries
 returns-clause-boundaries c = at_boundaries_stays
 
 pub returns-clause-framed : goal.returns-clause-framed
-returns-clause-framed c = framed_from_stays
+returns-clause-framed c frame x l = framed_from_stays x (at_boundaries frame l)
