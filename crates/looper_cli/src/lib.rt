@@ -15,3 +15,6 @@ pub use first_journal::{Hits, read_first_journal};
 pub use status::{FileFault, Status};
 pub use top::plain_run;
 pub use words::{Render, WordsFault, words_of};
+
+#[cfg(test)]
+mod tests;
