@@ -8,8 +8,6 @@ mod numeral;
 mod one_run;
 mod render;
 mod status;
-#[cfg(test)]
-mod tests;
 mod top;
 mod words;
 
