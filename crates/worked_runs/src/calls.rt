@@ -1,7 +1,7 @@
 //! The public calls below a run, once each where they succeed.
 
 use loop_strip::Strip;
-use looper_cli::{Status, words_of};
+use looper_cli::{Status, Words, words_of};
 use sl_base::{Frame, Frames, Name, clamp24, narrow, scale, widen};
 use std::test::Fail;
 
@@ -71,7 +71,7 @@ fn names_and_words_are_read(rt: HostRuntime) -> Result<(), Fail> {
     for word in ["render", "in", "--period", "out"] {
         words.push(String::from_str(rt.alloc(), word)?)?;
     }
-    let files = words_of(&words).ok().ok_or("not in the grammar")?;
+    let Words::Render(files) = words_of(&words).ok().ok_or("not in the grammar")?;
     assert_eq!(rt; files.input.as_str(), "in");
     assert_eq!(rt; files.journal.as_str(), "--period");
     assert_eq!(rt; files.out.as_str(), "out");
