@@ -1,12 +1,20 @@
 -- How a run ends, from what its parts did.
-use Rattle.std.proofs.Common.{◌≡◌, ℕ, List, length, Option, ap, ◌∙◌, subst}
+use Rattle.std.proofs.Common.{◌≡◌, ℕ, suc, ◌+◌, ◌-◌, ◌/◌, ◌%◌, ◌≤◌, List, [], ◌∷◌, ◌++◌, length, take, drop, Option, Some, None, ap, sym, ◌∙◌, subst, refl, arith}
+use Rattle.std.proofs.lemmas.List.{append-nil, drop_all, length-drop, take_all}
+use Rattle.std.specs.declared.vec.Vec.{Vec}
+use Rattle.std.specs.declared.alloc.Global.{Global}
 use Rattle.sl_base.specs.Sounds.{Sound}
 use Rattle.sl_ports.specs.Files.{Files, put_told}
-use Rattle.wav_pcm.specs.Mono16.{IsMono16}
+use Rattle.wav_pcm.specs.Mono16.{IsMono16, sounds}
+use Rattle.wav_pcm.specs.WavText.{samples_size, wav_header}
+use Rattle.wav_pcm.proofs.Mono16Lemmas.{reading_is_in_bytes, text_has_header, wav_text-mono16}
+use Rattle.looper_rules.specs.OneLoop.{OneLoop, idle, after, hit_at, run_from, one_run}
 use Rattle.looper_cli.specs.FirstJournal.{IsFirstJournal}
 use Rattle.looper_cli.specs.Words.{FileNames}
-use Rattle.looper_cli.specs.Inputs.{Has}
-use Rattle.looper_cli.specs.Endings.{MadeFrom, Renders, out_text}
+use Rattle.looper_cli.specs.Contents.{AreBytes}
+use Rattle.looper_cli.specs.Inputs.{Has, IsInput}
+use Rattle.looper_cli.specs.OneRun.{told}
+use Rattle.looper_cli.specs.Endings.{IsMadeOf, IsOutOf, MadeFrom, Renders}
 use Rattle.looper_cli.specs.Console.{done_text}
 
 -- what was made is written and told
@@ -20,10 +28,87 @@ renders_from names before after out text bytes told_bytes Told made bytes_are to
   summary = subst Told (told_are ∙ made.text_made) told;
 }
 
+-- the file that was read has these frames and this rate
+found_there :
+    (name : List ℕ) (files : Option Files) (input : Vec ℕ Global) (frames : List Sound) (rate : ℕ) →
+    IsMono16 input.items frames rate → Has (AreBytes input) files name → Has (λ bytes. IsMono16 bytes frames rate) files name
+found_there name None input frames rate read there = tt
+found_there name (Some files) input frames rate read there = (there.0, there.1, subst (λ bytes. IsMono16 bytes frames rate) (sym there.2) read)
+
+-- as much is heard as comes in
+length-run_from : (hits : List ℕ) (frame : ℕ) (loop : OneLoop) (xs : List Sound) → length (run_from hits frame loop xs) ≡ length xs
+length-run_from hits frame loop [] = refl
+length-run_from hits frame loop (x ∷ xs) = ap suc (length-run_from hits (frame + 1) (after (hit_at hits frame loop) x) xs)
+
+-- as much is heard of a whole input
+length-one_run : (hits : List ℕ) (xs : List Sound) → length (one_run hits xs) ≡ length xs
+length-one_run hits xs = length-run_from hits 0 idle xs
+
 -- what is made of the files that were read
 pub made_from :
-    (names : FileNames) (files : Option Files) (frames : List Sound) (rate : ℕ) (hits out text : List ℕ) →
-    Has (λ bytes. IsMono16 bytes frames rate) files names.input → Has (λ bytes. IsFirstJournal bytes hits) files names.journal →
-    out ≡ out_text frames hits rate → text ≡ done_text (length frames) (length hits) → MadeFrom names files out text
-made_from names files frames rate hits out text input journal out_is text_is =
-    record { inputs = record { rate = rate; frames = frames; hits = hits; input = input; journal = journal }; out_made = out_is; text_made = text_is }
+    (names : FileNames) (files : Option Files) (input : Vec ℕ Global) (hits out text : List ℕ) →
+    IsInput input.items → Has (AreBytes input) files names.input → Has (λ bytes. IsFirstJournal bytes hits) files names.journal →
+    IsMadeOf input.items hits out text → MadeFrom names files out text
+made_from names files input hits out text is there journal made =
+    let frames = is.0
+    in let rate = is.1
+    in record {
+      inputs = record { rate = rate; frames = frames; hits = hits; input = found_there names.input files input frames rate is.2 there; journal = journal };
+      out_made = made.out_made frames rate is.2;
+      text_made = made.text_made frames rate is.2;
+    }
+
+-- what is heard, written over all samples of IN, makes OUT
+pub samples_make_out :
+    (input hits given slice out : List ℕ) → given ≡ hits → out ≡ take 44 input ++ (slice ++ drop (length input - 44) (drop 44 input)) →
+    slice ≡ told (one_run given (sounds (take (length input - 44) (drop 44 input)))) → IsOutOf input hits out
+samples_make_out input hits given slice out same whole written = λ frames rate read.
+    let header : List ℕ = wav_header (samples_size (length frames) 1 16) 1 16 rate in
+    let heard : List Sound = one_run hits frames in
+    let size : length (drop 44 input) ≤ length input - 44 = omega (arith, length-drop 44 input) in
+    let all : take (length input - 44) (drop 44 input) ≡ drop 44 input = take_all (length input - 44) (drop 44 input) size in
+    let none : drop (length input - 44) (drop 44 input) ≡ [] = drop_all (length input - 44) (drop 44 input) size in
+    let spelled : frames ≡ sounds (drop 44 input) = (reading_is_in_bytes input frames rate read).0 in
+    let first : take 44 input ≡ header = (text_has_header input frames rate read.readable read.spelled).header in
+    whole
+    ∙ ap (λ rest. take 44 input ++ (slice ++ rest)) none
+    ∙ ap (λ bytes. take 44 input ++ bytes) (append-nil slice ∙ written ∙ ap (λ hs. told (one_run hs (sounds (take (length input - 44) (drop 44 input))))) same ∙ ap (λ bytes. told (one_run hits (sounds bytes))) all ∙ ap (λ xs. told (one_run hits xs)) (sym spelled))
+    ∙ ap (λ bytes. bytes ++ told heard) first
+    ∙ ap (λ len. wav_header (samples_size len 1 16) 1 16 rate ++ told heard) (sym (length-one_run hits frames))
+    ∙ sym (wav_text-mono16 heard rate)
+
+-- OUT takes the place of IN in its vector
+pub vector_holds_out :
+    (input given hits out : List ℕ) (len : ℕ) → given ≡ input → len ≡ length input → length out ≡ length given → IsOutOf given hits out →
+    IsOutOf input hits (take len (out ++ drop (length out) input))
+vector_holds_out input given hits out len same len_is size made =
+    let long : length out ≡ length input = size ∙ ap length same in
+    let none : drop (length out) input ≡ [] = drop_all (length out) input (omega (arith, long)) in
+    let whole : out ≡ take len (out ++ drop (length out) input) =
+    sym (ap (λ rest. take len (out ++ rest)) none ∙ ap (take len) (append-nil out) ∙ take_all len out (omega (arith, long, len_is))) in
+    subst (λ bytes. IsOutOf input hits bytes) whole (subst (λ bytes. IsOutOf bytes hits out) same made)
+
+-- the samples of IN are whole
+pub samples_are_whole : (input : List ℕ) → IsInput input → length (take (length input - 44) (drop 44 input)) % 2 ≡ 0
+samples_are_whole input is =
+    let long = (text_has_header input is.0 is.1 is.2.readable is.2.spelled).long in
+    let all : take (length input - 44) (drop 44 input) ≡ drop 44 input = take_all (length input - 44) (drop 44 input) (omega (arith, length-drop 44 input)) in
+    rw all (omega (arith, long, length-drop 44 input))
+
+-- how many frames the bytes of IN spell
+pub frames_of_input : (input : List ℕ) (frames : List Sound) (rate : ℕ) → IsMono16 input frames rate → length frames ≡ (length input - 44) / 2
+frames_of_input input frames rate read =
+    let long = (text_has_header input frames rate read.readable read.spelled).long in
+    omega (arith, long)
+
+-- what is written is made of IN's bytes
+pub made_of :
+    (input hits out text : List ℕ) (count entries : ℕ) → IsOutOf input hits out → count ≡ (length input - 44) / 2 → entries ≡ length hits →
+    text ≡ done_text count entries → IsMadeOf input hits out text
+made_of input hits out text count entries made frames_are entries_are told_are = record {
+  out_made = made;
+  text_made = λ frames rate read.
+      told_are
+      ∙ ap (λ n. done_text n entries) (frames_are ∙ sym (frames_of_input input frames rate read))
+      ∙ ap (λ n. done_text (length frames) n) entries_are;
+}

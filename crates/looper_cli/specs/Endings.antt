@@ -38,6 +38,15 @@ pub record Inputs (names : FileNames) (files : Option Files) : Type 0 where
 abbrev pub out_text : List Sound → List ℕ → ℕ → List ℕ
 out_text frames hits rate = wav_text (one_run hits frames) 1 16 rate
 
+-- the bytes are the WAV text of what is heard of whatever frames IN's bytes spell, with these hits
+abbrev pub IsOutOf : List ℕ → List ℕ → List ℕ → Type 0
+IsOutOf input hits out = (frames : List Sound) (rate : ℕ) → IsMono16 input frames rate → out ≡ out_text frames hits rate
+
+-- the bytes and the text of the console are made of IN's bytes and these hits
+pub record IsMadeOf (input hits out text : List ℕ) : Type 0 where
+  pub out_made : IsOutOf input hits out
+  pub text_made : (frames : List Sound) (rate : ℕ) → IsMono16 input frames rate → text ≡ done_text (length frames) (length hits)
+
 -- what is written was made from what the files were found to hold
 pub record MadeFrom (names : FileNames) (files : Option Files) (out text : List ℕ) : Type 0 where
   pub inputs : Inputs names files

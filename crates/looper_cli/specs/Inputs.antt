@@ -4,7 +4,6 @@ use Rattle.std.specs.Prelude.{◌≡◌, ℕ, List, Option, Some, None, Bool, tr
 use Rattle.sl_base.specs.Sounds.{Sound}
 use Rattle.sl_ports.specs.Files.{Files, Holds}
 use Rattle.wav_pcm.specs.Mono16.{IsMono16}
-use Rattle.wav_pcm.specs.declared.read.Wav.{Wav}
 use Rattle.looper_cli.specs.FirstJournal.{IsFirstJournal}
 use Rattle.looper_cli.specs.declared.first_journal.Hits.{Hits}
 use Rattle.looper_cli.specs.declared.status.FileFault.{FileFault}
@@ -47,10 +46,6 @@ is_failure (Err Memory) = false
 abbrev pub Says : {T : Type 0} → (T → List ℕ → Type 0) → (List ℕ → Type 0) → Option Files → List ℕ → Result T Unread → Type 0
 Says Is Form files name (Ok value) = Has (Is value) files name
 Says Is Form files name (Err unread) = SaysOf unread Form files name
-
--- the WAV file that the bytes spell
-abbrev pub IsWav : Wav → List ℕ → Type 0
-IsWav wav bytes = IsMono16 bytes wav.frames wav.rate
 
 -- the hits whose journal the bytes are
 abbrev pub AreHitsOf : Hits → List ℕ → Type 0

@@ -2,8 +2,7 @@
 
 ghost use Rattle.std.specs.Prelude.{◌≡◌, IfOk};
 ghost use Rattle.sl_ports.specs.Faults.{Counts};
-ghost use Rattle.wav_pcm.specs.Mono16.{IsReadable};
-ghost use Rattle.looper_cli.specs.Inputs.{IsInput, IsJournal, Says, IsWav, AreHitsOf, is_failure};
+ghost use Rattle.looper_cli.specs.Inputs.{IsInput, IsJournal, Says, AreHitsOf, is_failure};
 ghost use Rattle.looper_cli.specs.Contents.{SaysOfBytes, AreBytes, IsFile};
 
 use crate::first_journal::{Hits, read_first_journal};
@@ -11,7 +10,7 @@ use crate::status::FileFault;
 use sl_base::Name;
 use sl_ports::{FileAnswer, Keeper};
 use std::alloc::Global;
-use wav_pcm::{Wav, read_mono16};
+use wav_pcm::rate_of_mono16;
 
 /// Why a file gave nothing.
 #[derive(Clone, Copy, Debug, PartialEq, Eq)]
@@ -39,15 +38,14 @@ fn read_bytes<P: Keeper>(alloc: Global, keeper: &mut P, name: &Name) -> Result<V
     }
 }
 
-/// The WAV file that these bytes are.
-fn wav_in(alloc: Global, bytes: &[u8]) -> Result<Wav, Unread>
-    ensures value { SaysOfBytes IsWav IsInput bytes.now result }
-    ensures readable { IfOk result (λ wav. IsReadable wav.frames wav.rate) }
+/// The bytes, where they are a WAV file of one channel of 16 bits.
+fn wav_in(bytes: Vec<u8>) -> Result<Vec<u8>, Unread>
+    ensures value { SaysOfBytes AreBytes IsInput bytes.items result }
+    ensures readable { IfOk result (λ input. IsInput input.items) }
 {
-    match read_mono16(alloc, bytes) {
-        Err(_) => Err(Unread::Memory),
-        Ok(None) => Err(Unread::Bad(FileFault::NotYet)),
-        Ok(Some(wav)) => Ok(wav),
+    match rate_of_mono16(&bytes) {
+        None => Err(Unread::Bad(FileFault::NotYet)),
+        Some(_) => Ok(bytes),
     }
 }
 
@@ -61,16 +59,16 @@ fn hits_in(bytes: &[u8]) -> Result<Hits, Unread>
     }
 }
 
-/// Reads IN: a WAV file of one channel of 16 bits.
-pub fn read_input<P: Keeper>(alloc: Global, keeper: &mut P, name: &Name) -> Result<Wav, Unread>
+/// Reads IN: the bytes of a WAV file of one channel of 16 bits.
+pub fn read_input<P: Keeper>(alloc: Global, keeper: &mut P, name: &Name) -> Result<Vec<u8>, Unread>
     ensures counts { Counts (P.read_faults keeper.old) (P.read_faults keeper.new) (is_failure result) }
     ensures writes { P.write_faults keeper.new ≡ P.write_faults keeper.old }
     ensures unchanged { P.files keeper.new ≡ P.files keeper.old }
-    ensures value { Says IsWav IsInput (P.files keeper.old) name.now result }
-    ensures readable { IfOk result (λ wav. IsReadable wav.frames wav.rate) }
+    ensures value { Says AreBytes IsInput (P.files keeper.old) name.now result }
+    ensures readable { IfOk result (λ input. IsInput input.items) }
 {
     match read_bytes(alloc, keeper, name) {
-        Ok(bytes) => wav_in(alloc, &bytes),
+        Ok(bytes) => wav_in(bytes),
         Err(unread) => Err(unread),
     }
 }

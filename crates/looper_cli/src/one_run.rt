@@ -1,13 +1,18 @@
-//! The run of one loop over a whole input.
+//! The run of one loop over a whole input, in place and period by period.
 
-ghost use Rattle.std.specs.Prelude.{◌≡◌, ℕ, ◌≤◌, length, IfOk, OnOk, min, Some};
+ghost use Rattle.std.specs.Prelude.{◌≡◌, ℕ, ◌+◌, ◌-◌, ◌*◌, ◌/◌, ◌%◌, ◌≤◌, ◌<◌, length, IfOk, OnOk, min, Some};
 ghost use Rattle.looper_rules.specs.OneLoop.{idle, one_run};
-ghost use Rattle.looper_cli.specs.OneRun.{RunsPart, HasCome};
+ghost use Rattle.wav_pcm.specs.Mono16.{sounds};
+ghost use Rattle.looper_cli.specs.OneRun.{told, RunsOver, RunsPart, HasCome};
 ghost use Rattle.looper_cli.specs.FirstJournal.{NeverFallsFrom};
 
 use loop_strip::Strip;
 use sl_base::{Frame, Memory};
 use std::alloc::Global;
+use wav_pcm::{read_mono16_samples, write_mono16_samples};
+
+/// The frames of one turn.
+const PERIOD: usize = 1024;
 
 /// How many frames of the input lie before a hit's frame.
 fn frames_before(hit: u64, len: usize) -> usize
@@ -16,20 +21,84 @@ fn frames_before(hit: u64, len: usize) -> usize
     if hit < len as u64 { hit as usize } else { len }
 }
 
-/// Runs the strip over a part of the input, from `done` up to `until`.
+/// The end of the period that begins at `done`, where the run goes up to `until`.
+fn period_end(done: usize, until: usize, period: usize) -> usize
+    requires order { done < until }
+    requires some { 1 ≤ period }
+    ensures later { done < result }
+    ensures within { result ≤ until }
+    ensures short { result ≤ done + period }
+{
+    if until - done < period {
+        until
+    } else {
+        done + period
+    }
+}
+
+/// Runs the strip over the samples of one period, and writes what is heard over them.
+fn run_period(
+    strip: &mut Strip,
+    samples: &mut [u8],
+    input: &mut [Frame],
+    heard: &mut [Frame],
+) -> Result<(), Memory>
+    requires room { length samples.old ≡ 2 * length input.old }
+    requires same_length { length heard.old ≡ length input.old }
+    ensures ok { OnOk result (RunsOver strip.old strip.new samples.old samples.new) }
+{
+    read_mono16_samples(samples, input);
+    strip.run(input, heard)?;
+    write_mono16_samples(samples, heard);
+    Ok(())
+}
+
+/// Runs the strip over the samples from frame `done` up to `until`, which lie within one period.
 fn run_part(
     strip: &mut Strip,
-    input: &[Frame],
-    output: &mut [Frame],
+    samples: &mut [u8],
+    input: &mut [Frame],
+    heard: &mut [Frame],
     done: usize,
     until: usize,
 ) -> Result<(), Memory>
     requires order { done ≤ until }
-    requires within { until ≤ length input.now }
-    requires same_length { length input.now ≡ length output.old }
-    ensures ok { OnOk result (RunsPart strip.old strip.new input.now output.old output.new done until) }
+    requires within { 2 * until ≤ length samples.old }
+    requires short { until ≤ done + length input.old }
+    requires same_length { length heard.old ≡ length input.old }
+    ensures ok { OnOk result (RunsPart strip.old strip.new samples.old samples.new done until) }
 {
-    strip.run(&input[done..until], &mut output[done..until])
+    let len = until - done;
+    run_period(
+        strip,
+        &mut samples[2 * done..2 * until],
+        &mut input[..len],
+        &mut heard[..len],
+    )
+}
+
+/// Runs the strip over the samples from frame `done` up to `until`, one period after another.
+fn run_periods(
+    strip: &mut Strip,
+    samples: &mut [u8],
+    input: &mut [Frame],
+    heard: &mut [Frame],
+    done: usize,
+    until: usize,
+) -> Result<(), Memory>
+    requires order { done ≤ until }
+    requires within { 2 * until ≤ length samples.old }
+    requires some { 1 ≤ length input.old }
+    requires same_length { length heard.old ≡ length input.old }
+    ensures ok { OnOk result (RunsPart strip.old strip.new samples.old samples.new done until) }
+{
+    let mut at = done;
+    'periods: while at < until {
+        let end = period_end(at, until, input.len());
+        run_part(strip, samples, input, heard, at, end)?;
+        at = end;
+    }
+    Ok(())
 }
 
 /// So many frames of silence.
@@ -42,36 +111,41 @@ fn silent(alloc: Global, len: usize) -> Result<Vec<Frame>, Memory>
     }
 }
 
-/// Writes what is heard of the input over the output, with hits of record at these frames.
+/// Writes what is heard of the samples over them, with hits of record at these frames.
 fn run_over(
     strip: &mut Strip,
-    input: &[Frame],
+    samples: &mut [u8],
     hits: &[u64],
-    output: &mut [Frame],
+    input: &mut [Frame],
+    heard: &mut [Frame],
 ) -> Result<(), Memory>
     requires fresh { strip.old ≡ Some idle }
+    requires whole { length samples.old % 2 ≡ 0 }
     requires order { NeverFallsFrom 0 hits.now }
-    requires same_length { length input.now ≡ length output.old }
-    ensures { OnOk result (output.new ≡ one_run hits.now input.now) }
+    requires some { 1 ≤ length input.old }
+    requires same_length { length heard.old ≡ length input.old }
+    ensures { OnOk result (samples.new ≡ told (one_run hits.now (sounds samples.old))) }
 {
+    let len = samples.len() / 2;
     let mut done = 0;
     for hit in hits {
-        let until = frames_before(*hit, input.len());
-        run_part(strip, input, output, done, until)?;
+        let until = frames_before(*hit, len);
+        run_periods(strip, samples, input, heard, done, until)?;
         strip.hit_record();
         done = until;
     }
-    run_part(strip, input, output, done, input.len())
+    run_periods(strip, samples, input, heard, done, len)
 }
 
-/// What is heard of the input, with hits of record at these frames: one frame for each that comes in.
-pub fn one_run(alloc: Global, input: &[Frame], hits: &[u64]) -> Result<Vec<Frame>, Memory>
-    requires { NeverFallsFrom 0 hits.now }
-    ensures value { IfOk result (λ output. output.items ≡ one_run hits.now input.now) }
-    ensures same_length { IfOk result (λ output. length output.items ≡ length input.now) }
+/// Writes what is heard of samples of 16 bits in one channel over them, with hits of record at these frames. Where
+/// memory is wanted, they are partly written.
+pub fn one_run(alloc: Global, samples: &mut [u8], hits: &[u64]) -> Result<(), Memory>
+    requires whole { length samples.old % 2 ≡ 0 }
+    requires order { NeverFallsFrom 0 hits.now }
+    ensures { OnOk result (samples.new ≡ told (one_run hits.now (sounds samples.old))) }
 {
-    let mut output = silent(alloc, input.len())?;
+    let mut input = silent(alloc, PERIOD)?;
+    let mut heard = silent(alloc, PERIOD)?;
     let mut strip = Strip::new(alloc);
-    run_over(&mut strip, input, hits, &mut output)?;
-    Ok(output)
+    run_over(&mut strip, samples, hits, &mut input, &mut heard)
 }

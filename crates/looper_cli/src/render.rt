@@ -1,14 +1,13 @@
 //! `render`: from the files to the file.
 
-ghost use Rattle.std.specs.Prelude.{◌≡◌, ℕ, List, length, IfOk};
+ghost use Rattle.std.specs.Prelude.{◌≡◌, ◌-◌, ◌/◌, length, IfOk, OnOk};
 ghost use Rattle.std.specs.String.{string_bytes};
 ghost use Rattle.sl_ports.specs.Texts.{Tells};
-ghost use Rattle.wav_pcm.specs.Mono16.{IsMono16, IsReadable};
 ghost use Rattle.looper_cli.specs.Console.{done_text};
-ghost use Rattle.looper_cli.specs.FirstJournal.{IsFirstJournal};
-ghost use Rattle.looper_cli.specs.Inputs.{Has, IsWav, AreHitsOf};
+ghost use Rattle.looper_cli.specs.Contents.{AreBytes};
+ghost use Rattle.looper_cli.specs.Inputs.{Has, IsInput, AreHitsOf};
 ghost use Rattle.looper_cli.specs.Named.{names};
-ghost use Rattle.looper_cli.specs.Endings.{Around, Ends, MadeFrom, Refuses, out_text};
+ghost use Rattle.looper_cli.specs.Endings.{Around, Ends, IsMadeOf, IsOutOf, MadeFrom, Refuses};
 
 use crate::console::{tell, tell_bad_file};
 use crate::files::{Unread, read_input, read_journal};
@@ -19,7 +18,6 @@ use crate::words::Render;
 use sl_base::{Memory, Name};
 use sl_ports::{KeepAnswer, Keeper, Sink, SinkAnswer};
 use std::alloc::Global;
-use wav_pcm::{Wav, wav_text};
 
 /// What a run writes: the bytes of OUT and the text of the console.
 #[derive(Drop)]
@@ -57,24 +55,39 @@ fn summary(alloc: Global, frames: usize, entries: usize) -> Result<String, Memor
     }
 }
 
-/// The bytes of OUT. The input is let go before they are made.
-fn out_bytes(alloc: Global, wav: Wav, hits: &Hits) -> Result<Vec<u8>, Memory>
-    requires { IsReadable wav.frames wav.rate }
-    ensures { IfOk result (λ out. out.items ≡ out_text wav.frames hits.now wav.rate) }
+/// How many frames a file of one channel of 16 bits has.
+fn frames_in(bytes: &[u8]) -> usize
+    requires { IsInput bytes.now }
+    ensures { result ≡ (length bytes.now - 44) / 2 }
 {
-    let output = one_run(alloc, wav.frames.as_slice(), hits.as_slice())?;
-    let rate = wav.rate;
-    drop(wav);
-    wav_text(alloc, &output, 1, 16, rate)
+    (bytes.len() - 44) / 2
+}
+
+/// Writes what is heard of the samples behind the first 44 bytes over them.
+fn write_over(alloc: Global, bytes: &mut [u8], hits: &Hits) -> Result<(), Memory>
+    requires { IsInput bytes.old }
+    ensures { OnOk result (IsOutOf bytes.old hits.now bytes.new) }
+{
+    one_run(alloc, &mut bytes[44..], hits.as_slice())
+}
+
+/// The bytes of OUT, made over those of IN.
+fn out_bytes(alloc: Global, input: Vec<u8>, hits: &Hits) -> Result<Vec<u8>, Memory>
+    requires { IsInput input.items }
+    ensures { IfOk result (λ out. IsOutOf input.items hits.now out.items) }
+{
+    let mut out = input;
+    write_over(alloc, &mut out, hits)?;
+    Ok(out)
 }
 
 /// All that a run writes, made before anything is written.
-fn make(alloc: Global, wav: Wav, hits: &Hits) -> Result<Made, Memory>
-    requires { IsReadable wav.frames wav.rate }
-    ensures { IfOk result (λ made. (made.out.items ≡ out_text wav.frames hits.now wav.rate) × (string_bytes made.text ≡ done_text (length wav.frames) (length hits.now))) }
+fn make(alloc: Global, input: Vec<u8>, hits: &Hits) -> Result<Made, Memory>
+    requires { IsInput input.items }
+    ensures { IfOk result (λ made. IsMadeOf input.items hits.now made.out.items (string_bytes made.text)) }
 {
-    let text = summary(alloc, wav.frames.len(), hits.len())?;
-    let out = out_bytes(alloc, wav, hits)?;
+    let text = summary(alloc, frames_in(&input), hits.len())?;
+    let out = out_bytes(alloc, input, hits)?;
     Ok(Made { out, text })
 }
 
@@ -117,13 +130,13 @@ fn write<P: Keeper, C: Sink>(
 fn finish<P: Keeper, C: Sink>(
     alloc: Global,
     files: &Render,
-    wav: Wav,
+    input: Vec<u8>,
     hits: &Hits,
     keeper: &mut P,
     console: &mut C,
 ) -> Status
-    requires readable { IsReadable wav.frames wav.rate }
-    requires input { Has (IsWav wav) (P.files keeper.old) files.now.input }
+    requires readable { IsInput input.items }
+    requires input { Has (AreBytes input) (P.files keeper.old) files.now.input }
     requires journal { Has (AreHitsOf hits.now) (P.files keeper.old) files.now.journal }
     ensures { Ends (names files.now) (record {
       reads_before = P.read_faults keeper.old;
@@ -138,7 +151,7 @@ fn finish<P: Keeper, C: Sink>(
       text = C.held console.new;
     }) result }
 {
-    match make(alloc, wav, hits) {
+    match make(alloc, input, hits) {
         Ok(made) => write(alloc, files, &made, keeper, console),
         Err(_) => Status::Memory,
     }
@@ -148,12 +161,12 @@ fn finish<P: Keeper, C: Sink>(
 fn go_on<P: Keeper, C: Sink>(
     alloc: Global,
     files: &Render,
-    wav: Wav,
+    input: Vec<u8>,
     keeper: &mut P,
     console: &mut C,
 ) -> Status
-    requires readable { IsReadable wav.frames wav.rate }
-    requires input { Has (IsWav wav) (P.files keeper.old) files.now.input }
+    requires readable { IsInput input.items }
+    requires input { Has (AreBytes input) (P.files keeper.old) files.now.input }
     ensures { Ends (names files.now) (record {
       reads_before = P.read_faults keeper.old;
       reads = P.read_faults keeper.new;
@@ -168,7 +181,7 @@ fn go_on<P: Keeper, C: Sink>(
     }) result }
 {
     match read_journal(alloc, keeper, &files.journal) {
-        Ok(hits) => finish(alloc, files, wav, &hits, keeper, console),
+        Ok(hits) => finish(alloc, files, input, &hits, keeper, console),
         Err(unread) => refuse(console, &files.journal, unread),
     }
 }
@@ -194,7 +207,7 @@ pub fn render<P: Keeper, C: Sink>(
     }) result }
 {
     match read_input(alloc, keeper, &files.input) {
-        Ok(wav) => go_on(alloc, files, wav, keeper, console),
+        Ok(input) => go_on(alloc, files, input, keeper, console),
         Err(unread) => refuse(console, &files.input, unread),
     }
 }

@@ -1,9 +1,9 @@
 -- Reading one channel of 16 bits.
-use Rattle.std.proofs.Common.{◌≡◌, ℕ, suc, ◌+◌, ◌-◌, ◌*◌, ◌/◌, ◌%◌, ◌^◌, ◌≤◌, ◌<◌, List, [], ◌∷◌, ◌++◌, length, take, drop, get_or, map, sym, ap, ◌∙◌, refl, arith, replicate, inl, length-append}
+use Rattle.std.proofs.Common.{◌≡◌, ℕ, suc, ◌+◌, ◌-◌, ◌*◌, ◌/◌, ◌%◌, ◌^◌, ◌≤◌, ◌<◌, List, [], ◌∷◌, ◌++◌, length, take, drop, get_or, map, set, Option, Some, None, sym, ap, ◌∙◌, refl, arith, replicate, inl, length-append}
 use Rattle.std.proofs.Math.Seq.{drop-cons}
 use Rattle.std.proofs.lemmas.Int.{ints, of_z-to_z, to_z-of_z}
-use Rattle.std.proofs.lemmas.List.{append-nil, append_assoc, get_or-drop, length-drop, take-append-drop, take_at, take_rest, length-map}
-use Rattle.std.specs.Prelude.{ℤ, pos, negsuc}
+use Rattle.std.proofs.lemmas.List.{append-nil, append_assoc, get_or-drop, length-drop, take-append-drop, take_at, take_more_set, take_rest, length-map}
+use Rattle.std.specs.Prelude.{ℤ, pos, negsuc, IfSome, IfNone}
 use Rattle.std.specs.List.{AllByRecursion}
 use Rattle.std.specs.Int.{w16, cast_signed}
 use Rattle.byteorder.specs.Endian.{little_number}
@@ -12,7 +12,7 @@ use mir.Val.{SFits}
 use Rattle.sl_base.specs.Arithmetic.{IsSample, narrowed, widened}
 use Rattle.sl_base.specs.Sounds.{IsFrame, Sound, both}
 use Rattle.wav_pcm.proofs.WavTextLemmas.{cast_unsigned-w16, length-samples}
-use Rattle.wav_pcm.specs.Mono16.{HasHeader, IsMono16, IsReadable, kept, sample_of, sounds}
+use Rattle.wav_pcm.specs.Mono16.{HasHeader, IsMono16, IsNotMono16, IsReadable, kept, sample_of, sounds}
 use Rattle.wav_pcm.specs.WavText.{IsFormat, sample_bytes, samples, samples_size, twos_complement, wav_header, wav_text}
 
 -- less than two bytes spell no frame
@@ -47,6 +47,22 @@ sounds-more bytes frames place sample frame before sample_is frame_is so_far =
     ∙ ap (λ (f : Sound). frames ++ (f ∷ sounds (drop (2 * (place + 1)) bytes))) frame_is
     ∙ ap (λ (rest : List Sound). frames ++ rest) (sym (sounds-drop bytes place sample before sample_is))
     ∙ so_far
+
+-- one frame more is written over those that stood there
+pub sounds-more_set : (bytes : List ℕ) (frames : List Sound) (place : ℕ) (sample : ℤ) (frame : Sound) → place < length frames → place < length bytes / 2
+    → sample ≡ widened (cast_signed w16 (little_number 2 (take (length bytes - 2 * place) (drop (2 * place) bytes))))
+    → frame ≡ both sample
+    → take place frames ++ sounds (drop (2 * place) bytes) ≡ sounds bytes
+    → take (place + 1) (set frames place frame) ++ sounds (drop (2 * (place + 1)) bytes) ≡ sounds bytes
+sounds-more_set bytes frames place sample frame there before sample_is frame_is so_far =
+    rw (take_more_set frames place frame there) (sounds-more bytes (take place frames) place sample frame before sample_is frame_is so_far)
+
+-- samples behind samples spell frames behind frames
+pub sounds-append : (bytes rest : List ℕ) → length bytes % 2 ≡ 0 → sounds (bytes ++ rest) ≡ sounds bytes ++ sounds rest
+sounds-append [] rest even = refl
+sounds-append (low ∷ []) rest even = absurd (omega arith)
+sounds-append (low ∷ high ∷ bytes) rest even =
+    ap (λ (frames : List Sound). both (widened (sample_of low high)) ∷ frames) (sounds-append bytes rest (omega arith))
 
 -- the bytes are numbers below 256
 abbrev pub AreBytes : List ℕ → Type 0
@@ -156,6 +172,17 @@ text_has_header bytes frames rate readable spelled =
       rate_from = readable.rate_from;
       rate_within = readable.rate_within;
     }
+
+-- a rate that is found in the header is that of a file that is read
+pub rate_is_read : (bytes : List ℕ) (answer : Option ℕ) → AreBytes bytes → IfSome answer (λ rate. HasHeader bytes ((length bytes - 44) / 2) rate)
+    → IfSome answer (λ rate. IsMono16 bytes (sounds (drop 44 bytes)) rate)
+rate_is_read bytes None are_bytes has = tt
+rate_is_read bytes (Some rate) are_bytes has = header_is_enough bytes rate are_bytes has
+
+-- where there is no header the bytes are no file that is read
+pub no_rate_is_no_file : (bytes : List ℕ) (answer : Option ℕ) → IfNone answer ((count rate : ℕ) → ¬ HasHeader bytes count rate) → IfNone answer (IsNotMono16 bytes)
+no_rate_is_no_file bytes (Some rate) none = tt
+no_rate_is_no_file bytes None none = λ frames rate readable spelled. none (length frames) rate (text_has_header bytes frames rate readable spelled)
 
 -- a sample divided by 256 is one of 16 bits
 pub narrowed_fits : (sample : ℤ) → IsSample sample → SFits w16 (narrowed sample)

@@ -1,6 +1,6 @@
 //! Reading one channel of 16 bits.
 
-ghost use Rattle.std.specs.Prelude.{◌≡◌, ℕ, ◌-◌, ◌/◌, ◌≤◌, ◌<◌, ◌^◌, ◌↔◌, length, IsTrue, IfOk, IfSome, IfNone};
+ghost use Rattle.std.specs.Prelude.{◌≡◌, ℕ, ◌-◌, ◌*◌, ◌/◌, ◌≤◌, ◌<◌, ◌^◌, ◌↔◌, length, drop, IsTrue, IfOk, IfSome, IfNone};
 ghost use Rattle.wav_pcm.specs.Mono16.{sounds, HasHeader, IsMono16, IsNotMono16};
 ghost use Rattle.wav_pcm.specs.WavText.{wav_header};
 
@@ -43,6 +43,20 @@ fn read_samples(alloc: Global, bytes: &[u8]) -> Result<Vec<Frame>, Memory>
     Ok(frames)
 }
 
+/// Reads samples of 16 bits in one channel over `frames`. `bytes` has two for each frame.
+pub fn read_mono16_samples(bytes: &[u8], frames: &mut [Frame])
+    requires room { length bytes.now ≡ 2 * length frames.old }
+    ensures { frames.new ≡ sounds bytes.now }
+{
+    'samples: for place in 0..frames.len() {
+        let sample = widen(LittleEndian::read_i16(&bytes[2 * place..]));
+        frames[place] = Frame {
+            left: sample,
+            right: sample,
+        };
+    }
+}
+
 /// Whether these are the 44 bytes before samples of that size at this rate.
 fn is_header(bytes: &[u8], size: u32, rate: u32) -> bool
     requires size_within { size < 2 ^ 31 }
@@ -78,6 +92,15 @@ fn rate_of(bytes: &[u8]) -> Option<u32>
     }
 }
 
+/// The rate of a file of one channel of 16 bits, whose samples stand behind its first 44 bytes: at most 16777216 frames,
+/// at 1 to 768000 frames a second. `None` is any other content.
+pub fn rate_of_mono16(bytes: &[u8]) -> Option<u32>
+    ensures found { IfSome result (λ rate. IsMono16 bytes.now (sounds (drop 44 bytes.now)) rate) }
+    ensures only { IfNone result (IsNotMono16 bytes.now) }
+{
+    rate_of(bytes)
+}
+
 /// Reads a file of one channel of 16 bits: at most 16777216 frames, at 1 to 768000 frames a second. `None` is any
 /// other content.
 pub fn read_mono16(alloc: Global, bytes: &[u8]) -> Result<Option<Wav>, Memory>
@@ -85,7 +108,7 @@ pub fn read_mono16(alloc: Global, bytes: &[u8]) -> Result<Option<Wav>, Memory>
     ensures form { IfOk result (λ answer. IfSome answer (λ wav. (wav.channels ≡ 1) × (wav.bits ≡ 16))) }
     ensures only { IfOk result (λ answer. IfNone answer (IsNotMono16 bytes.now)) }
 {
-    match rate_of(bytes) {
+    match rate_of_mono16(bytes) {
         None => Ok(None),
         Some(rate) => {
             let (_, samples) = bytes.split_at(44);

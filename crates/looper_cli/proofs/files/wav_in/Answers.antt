@@ -1,5 +1,7 @@
+use Rattle.wav_pcm.specs.Mono16.{IsNotMono16}
+use Rattle.std.proofs.Common.{subst}
 use Rattle.looper_cli.proofs.InputLemmas.{no_input}
 use Rattle.looper_cli.proofs.files.wav_in.Goals as goal
 
-pub returns-in-Ok-None : goal.returns-in-Ok-None
-returns-in-Ok-None c = record { value = no_input c.args.bytes.now (rw c.in-Ok-None.field-0-is at c.in-Ok-None.ensures.only); readable = tt }
+pub returns-in-None-clause-value : goal.returns-in-None-clause-value
+returns-in-None-clause-value c = no_input c.args.bytes.items (subst IsNotMono16 c.deref.ensures.value c.in-None.ensures.only)
