@@ -72,22 +72,22 @@ fn write_over(alloc: Global, bytes: &mut [u8], hits: &Hits) -> Result<(), Memory
 }
 
 /// The bytes of OUT, made over those of IN.
-fn out_bytes(alloc: Global, input: Vec<u8>, hits: &Hits) -> Result<Vec<u8>, Memory>
-    requires { IsInput input.items }
-    ensures { IfOk result (λ out. IsOutOf input.items hits.now out.items) }
+fn out_bytes(alloc: Global, wav: Vec<u8>, hits: &Hits) -> Result<Vec<u8>, Memory>
+    requires { IsInput wav.items }
+    ensures { IfOk result (λ out. IsOutOf wav.items hits.now out.items) }
 {
-    let mut out = input;
+    let mut out = wav;
     write_over(alloc, &mut out, hits)?;
     Ok(out)
 }
 
 /// All that a run writes, made before anything is written.
-fn make(alloc: Global, input: Vec<u8>, hits: &Hits) -> Result<Made, Memory>
-    requires { IsInput input.items }
-    ensures { IfOk result (λ made. IsMadeOf input.items hits.now made.out.items (string_bytes made.text)) }
+fn make(alloc: Global, wav: Vec<u8>, hits: &Hits) -> Result<Made, Memory>
+    requires { IsInput wav.items }
+    ensures { IfOk result (λ made. IsMadeOf wav.items hits.now made.out.items (string_bytes made.text)) }
 {
-    let text = summary(alloc, frames_in(&input), hits.len())?;
-    let out = out_bytes(alloc, input, hits)?;
+    let text = summary(alloc, frames_in(&wav), hits.len())?;
+    let out = out_bytes(alloc, wav, hits)?;
     Ok(Made { out, text })
 }
 
@@ -130,13 +130,13 @@ fn write<P: Keeper, C: Sink>(
 fn finish<P: Keeper, C: Sink>(
     alloc: Global,
     files: &Render,
-    input: Vec<u8>,
+    wav: Vec<u8>,
     hits: &Hits,
     keeper: &mut P,
     console: &mut C,
 ) -> Status
-    requires readable { IsInput input.items }
-    requires input { Has (AreBytes input) (P.files keeper.old) files.now.input }
+    requires readable { IsInput wav.items }
+    requires input { Has (AreBytes wav) (P.files keeper.old) files.now.input }
     requires journal { Has (AreHitsOf hits.now) (P.files keeper.old) files.now.journal }
     ensures { Ends (names files.now) (record {
       reads_before = P.read_faults keeper.old;
@@ -151,7 +151,7 @@ fn finish<P: Keeper, C: Sink>(
       text = C.held console.new;
     }) result }
 {
-    match make(alloc, input, hits) {
+    match make(alloc, wav, hits) {
         Ok(made) => write(alloc, files, &made, keeper, console),
         Err(_) => Status::Memory,
     }
@@ -161,12 +161,12 @@ fn finish<P: Keeper, C: Sink>(
 fn go_on<P: Keeper, C: Sink>(
     alloc: Global,
     files: &Render,
-    input: Vec<u8>,
+    wav: Vec<u8>,
     keeper: &mut P,
     console: &mut C,
 ) -> Status
-    requires readable { IsInput input.items }
-    requires input { Has (AreBytes input) (P.files keeper.old) files.now.input }
+    requires readable { IsInput wav.items }
+    requires input { Has (AreBytes wav) (P.files keeper.old) files.now.input }
     ensures { Ends (names files.now) (record {
       reads_before = P.read_faults keeper.old;
       reads = P.read_faults keeper.new;
@@ -181,7 +181,7 @@ fn go_on<P: Keeper, C: Sink>(
     }) result }
 {
     match read_journal(alloc, keeper, &files.journal) {
-        Ok(hits) => finish(alloc, files, input, &hits, keeper, console),
+        Ok(hits) => finish(alloc, files, wav, &hits, keeper, console),
         Err(unread) => refuse(console, &files.journal, unread),
     }
 }
@@ -207,7 +207,7 @@ pub fn render<P: Keeper, C: Sink>(
     }) result }
 {
     match read_input(alloc, keeper, &files.input) {
-        Ok(input) => go_on(alloc, files, input, keeper, console),
+        Ok(wav) => go_on(alloc, files, wav, keeper, console),
         Err(unread) => refuse(console, &files.input, unread),
     }
 }
