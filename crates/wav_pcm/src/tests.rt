@@ -57,3 +57,17 @@ fn four_frames_of_24_bits_are_written(rt: HostRuntime) -> Result<(), Fail> {
     assert!(rt; read.is_none());
     Ok(())
 }
+
+#[test]
+fn eight_samples_are_read_and_written_in_place(rt: HostRuntime) -> Result<(), Fail> {
+    assert_eq!(rt; rate_of_mono16(EIGHT_SAMPLES), Some(48000));
+    assert!(rt; rate_of_mono16(FOUR_FRAMES).is_none());
+    let mut frames = [Frame::silence(); 8];
+    read_mono16_samples(&EIGHT_SAMPLES[44..], &mut frames);
+    let expected = frames_of(rt.alloc(), &[1, 2, 3, 4, 5, 6, 7, 8])?;
+    assert_eq!(rt; frames.as_slice(), expected.as_slice());
+    let mut bytes = [0u8; 16];
+    write_mono16_samples(&mut bytes, &frames);
+    assert_eq!(rt; bytes.as_slice(), &EIGHT_SAMPLES[44..]);
+    Ok(())
+}
