@@ -14,10 +14,15 @@ mod addr;
 mod arithmetic;
 mod frame;
 mod frames;
+mod laws;
 mod name;
 
 pub use addr::Addr;
 pub use arithmetic::{clamp24, narrow, scale, widen};
 pub use frame::Frame;
 pub use frames::{Frames, Memory};
+pub use laws::{
+    clamped_is_a_sample, clamped_is_nearest, full_level_changes_nothing, narrowed_rounds_down,
+    widened_comes_back,
+};
 pub use name::Name;
