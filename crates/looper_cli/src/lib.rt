@@ -1,4 +1,14 @@
 //! The command line: words, files, printing and the top call.
+//!
+//! - `plain_run` does what the words ask for, over a keeper of files and a console, and gives the exit status. How it ends
+//!   is said for each status in `specs/Endings`: what was written, what was told, and whose count of faults rose.
+//! - `render` reads IN and JOURNAL, makes all that it writes, and only then writes OUT and tells the console. So want of
+//!   memory and a bad file leave every file as it was.
+//! - What is heard is the single loop of `looper_rules`, run over IN's bytes in place, period by period.
+//! - A run that fails tells its text by calls that take no memory.
+//!
+//! Begin with `top`, then `render` and `one_run`; `words`, `files` and `first_journal` read what a run is given. The forms
+//! are "The words of the command line", "Journal", "The console" and "Statuses" in docs/formats.md.
 #![tactic(auto)]
 
 mod console;
