@@ -89,9 +89,14 @@ fn ends_as_told(rt: &impl Abort, alloc: Global, run: &Run) -> Result<(), Fail> {
         .ok()
         .ok_or("no memory")?;
     let status = plain_run(alloc, &words, &mut keeper, &mut console);
-    assert_eq!(rt; status, run.status, "{}", run.title);
-    assert_eq!(rt; console.bytes(), run.console, "{}", run.title);
-    assert_eq!(rt; keeper.file(&name("out.wav")?), run.out, "{}", run.title);
+    let out = keeper.file(&name("out.wav")?);
+    // Compared at once, so that a run that ends otherwise shows its whole end.
+    assert_eq!(rt;
+        (status, console.bytes(), out),
+        (run.status, run.console, run.out),
+        "{}",
+        run.title
+    );
     Ok(())
 }
 
