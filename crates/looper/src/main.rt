@@ -6,7 +6,7 @@ use sl_ports::{DirKeeper, Sink, SinkAnswer, StdSink};
 use std::process::ExitCode;
 use std::{env, io};
 
-const USAGE: &str = "looper: a live looper that never loses, doubles or alters a take
+const USAGE: &str = "looper: records a phrase into a loop and lets it repeat
 
 usage: looper render IN JOURNAL OUT
        looper --help
