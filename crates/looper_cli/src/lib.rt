@@ -8,7 +8,8 @@
 //! - A run that fails tells its text by calls that take no memory.
 //!
 //! Begin with `top`, then `render` and `one_run`; `words`, `files` and `first_journal` read what a run is given. The forms
-//! are "The words of the command line", "Journal", "The console" and "Statuses" in docs/formats.md.
+//! are "The words of the command line", "Journal", "The console" and "Statuses" in docs/formats.md, and what is heard is
+//! "The single loop" in docs/rules.md.
 #![tactic(auto)]
 
 mod console;
