@@ -18,7 +18,7 @@ use Rattle.looper_rules.specs.LoopFrame.{awake_in, wakes_as, stopped, extends, r
 use Rattle.looper_rules.specs.Undoing.{frame_later}
 use Rattle.looper_rules.proofs.StackChanges.{IsSame, IsTouched, IsSettled, IsDone, same, same_touched, touched_on, settled_same, touched_settled, touched_then_settled, settled_done}
 use Rattle.looper_rules.proofs.StackSteps.{run_broken_same, extended_touched, written_touched, first_frame_fits, opened_then_touched, room_for_one, opening_tests, opened_in_reach}
-use Rattle.looper_rules.proofs.KeptVerbs.{set_to}
+use Rattle.looper_rules.proofs.Kept.Verbs.{set_to}
 use Rattle.looper_rules.proofs.LoopChanges.{closed_settled, closed_quiet}
 
 -- the current layer has at most changed or gone, and has at most changed where the mode is a writing one

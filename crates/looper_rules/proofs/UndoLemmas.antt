@@ -14,7 +14,7 @@ use Rattle.looper_rules.specs.History.{undone_from, redone, closed_if, settled}
 use Rattle.looper_rules.specs.Verbs.{acts}
 use Rattle.looper_rules.specs.Saves.{pinned}
 use Rattle.looper_rules.specs.Undoing.{IsOpenedFrom, for_record, for_mode, StaysOpen, at_once, through_frame, through_save, aside, StandsClosed}
-use Rattle.looper_rules.proofs.KeptLayers.{unmarked-unmarked}
+use Rattle.looper_rules.proofs.Kept.Layers.{unmarked-unmarked}
 use Rattle.looper_rules.proofs.StackChanges.{IsTouched}
 use Rattle.looper_rules.proofs.StackSteps.{finished_touched, pinned_touched}
 use Rattle.looper_rules.proofs.VerbOpenings.{acts_undo_stack, acts_redo_stack}

@@ -20,7 +20,7 @@ use Rattle.looper_rules.specs.OtherLayers.{CountsRefusal}
 use Rattle.looper_rules.specs.Undoing.{frame_later, opens_as, IsOpenedFrom, for_record, for_mode}
 use Rattle.looper_rules.proofs.RefusalLemmas.{records_refused, starts_refused}
 use Rattle.looper_rules.proofs.FrameChanges.{once_awake}
-use Rattle.looper_rules.proofs.KeptVerbs.{set_to}
+use Rattle.looper_rules.proofs.Kept.Verbs.{set_to}
 use Rattle.looper_rules.proofs.LoopChanges.{quiet_settled, stepped_back_stack, redo_stack}
 
 -- another mode than Off

@@ -1,4 +1,4 @@
-use Rattle.looper_rules.proofs.KeptClosing.{closed_keeps}
+use Rattle.looper_rules.proofs.Kept.Closing.{closed_keeps}
 use Rattle.looper_rules.proofs.reached.a_closing_keeps_the_loop.Goals as goal
 
 pub returns : goal.returns

@@ -1,4 +1,4 @@
-use Rattle.looper_rules.proofs.KeptLoopFrame.{framed_keeps}
+use Rattle.looper_rules.proofs.Kept.LoopFrame.{framed_keeps}
 use Rattle.looper_rules.proofs.reached.a_frame_keeps_the_loop.Goals as goal
 
 pub returns : goal.returns

@@ -1,4 +1,4 @@
-use Rattle.looper_rules.proofs.KeptRuns.{looper_framed_keeps}
+use Rattle.looper_rules.proofs.Kept.Runs.{looper_framed_keeps}
 use Rattle.looper_rules.proofs.reached.a_frame_keeps_the_looper.Goals as goal
 
 pub returns : goal.returns

@@ -1,4 +1,4 @@
-use Rattle.looper_rules.proofs.KeptStarts.{loop_holds}
+use Rattle.looper_rules.proofs.Kept.Starts.{loop_holds}
 use Rattle.looper_rules.proofs.reached.a_kept_loop_is_a_loop.Goals as goal
 
 pub returns : goal.returns

@@ -1,4 +1,4 @@
-use Rattle.looper_rules.proofs.KeptStarts.{looper_holds}
+use Rattle.looper_rules.proofs.Kept.Starts.{looper_holds}
 use Rattle.looper_rules.proofs.reached.a_kept_looper_is_a_looper.Goals as goal
 
 pub returns : goal.returns

@@ -1,4 +1,4 @@
-use Rattle.looper_rules.proofs.KeptStarts.{start_keeps, new_begins}
+use Rattle.looper_rules.proofs.Kept.Starts.{start_keeps, new_begins}
 use Rattle.looper_rules.proofs.reached.a_run_begins_with_a_looper.Goals as goal
 
 pub returns-clause-kept : goal.returns-clause-kept

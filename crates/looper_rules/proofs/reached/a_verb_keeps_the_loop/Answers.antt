@@ -1,5 +1,5 @@
-use Rattle.looper_rules.proofs.KeptVerbs.{acts_keeps}
-use Rattle.looper_rules.proofs.KeptPresses.{given_keeps, waiting_acts_keeps}
+use Rattle.looper_rules.proofs.Kept.Verbs.{acts_keeps}
+use Rattle.looper_rules.proofs.Kept.Presses.{given_keeps, waiting_acts_keeps}
 use Rattle.looper_rules.proofs.reached.a_verb_keeps_the_loop.Goals as goal
 
 pub returns-clause-acts : goal.returns-clause-acts

@@ -1,4 +1,4 @@
-use Rattle.looper_rules.proofs.KeptEntries.{applied_keeps}
+use Rattle.looper_rules.proofs.Kept.Entries.{applied_keeps}
 use Rattle.looper_rules.proofs.reached.an_entry_keeps_the_looper.Goals as goal
 
 pub returns : goal.returns

@@ -1,4 +1,4 @@
-use Rattle.looper_rules.proofs.KeptOpening.{records_keeps, starts_keeps}
+use Rattle.looper_rules.proofs.Kept.Opening.{records_keeps, starts_keeps}
 use Rattle.looper_rules.proofs.reached.an_opening_keeps_the_loop.Goals as goal
 
 pub returns-clause-recorded : goal.returns-clause-recorded

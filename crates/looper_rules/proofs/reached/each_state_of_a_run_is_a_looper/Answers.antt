@@ -1,6 +1,6 @@
 -- What a looper keeps holds at the start, through all frames and through all entries behind them.
 use Rattle.looper_rules.specs.Run.{begun, start}
-use Rattle.looper_rules.proofs.KeptStarts.{runs_begun, runs_entered}
+use Rattle.looper_rules.proofs.Kept.Starts.{runs_begun, runs_entered}
 use Rattle.looper_rules.proofs.reached.each_state_of_a_run_is_a_looper.Goals as goal
 
 pub returns-clause-frames : goal.returns-clause-frames

@@ -19,13 +19,13 @@ use Rattle.looper_rules.specs.Starting.{records}
 use Rattle.looper_rules.specs.LoopFrame.{wakes_as, awake_in, awake, stopped, extends, ready_in, ready, sound_at, new_frame, how_in, fits, wraps, wrapped_place, next_place, wrapped_mode, goes_on, stops_if, advanced, overrun_in, writes, passes, after}
 use Rattle.looper_rules.specs.States.{IsRecorded, IsOpenOver, AreWritten, InMode, IsBehind, GoesOn, IsRun}
 use Rattle.looper_rules.specs.Reached.{Unchanged, Keeps}
-use Rattle.looper_rules.proofs.KeptDecks.{with_deck, refused_keeps, no_run}
-use Rattle.looper_rules.proofs.KeptOpening.{opens_record}
-use Rattle.looper_rules.proofs.KeptClosing.{closed_keeps, closed_leads, IsClosedMode}
-use Rattle.looper_rules.proofs.KeptRest.{closed_layers, IsResting, rests_again, resting_inside}
-use Rattle.looper_rules.proofs.KeptHistory.{closed_is_quiet}
-use Rattle.looper_rules.proofs.KeptVerbs.{set_to, leaves_wait_keeps}
-use Rattle.looper_rules.proofs.KeptWriting.{Writes, written_stack, written_layers, wrote, still_recorded, still_open, current_length-over, current_length-added, fresh_fits, new_fits, extended_keeps}
+use Rattle.looper_rules.proofs.Kept.Decks.{with_deck, refused_keeps, no_run}
+use Rattle.looper_rules.proofs.Kept.Opening.{opens_record}
+use Rattle.looper_rules.proofs.Kept.Closing.{closed_keeps, closed_leads, IsClosedMode}
+use Rattle.looper_rules.proofs.Kept.Rest.{closed_layers, IsResting, rests_again, resting_inside}
+use Rattle.looper_rules.proofs.Kept.History.{closed_is_quiet}
+use Rattle.looper_rules.proofs.Kept.Verbs.{set_to, leaves_wait_keeps}
+use Rattle.looper_rules.proofs.Kept.Writing.{Writes, written_stack, written_layers, wrote, still_recorded, still_open, current_length-over, current_length-added, fresh_fits, new_fits, extended_keeps}
 
 -- a WaitStart that ends
 wakes_keeps :

@@ -8,9 +8,9 @@ use Rattle.looper_rules.specs.Looper.{Asker, Track, tape_of}
 use Rattle.looper_rules.specs.Saves.{unmarked_layer, pinned, unpinned, pinned_for, freed, loop_asker, session_asker, freed_if, loop_released, session_released}
 use Rattle.looper_rules.specs.States.{IsClosed, IsRecorded, IsOpenOver, AreClosed, HasCurrent, ArePlayable, AreWaiting, AreWritten, InMode, AreWithin}
 use Rattle.looper_rules.specs.Reached.{AreOrdered, GoOnFrom, Unchanged, Keeps}
-use Rattle.looper_rules.proofs.KeptDecks.{no_run}
-use Rattle.looper_rules.proofs.KeptLayers.{length-unmarked, unmarked-unmarked, total_seams-cons, length-with_current}
-use Rattle.looper_rules.proofs.KeptTracks.{KeepsTracks}
+use Rattle.looper_rules.proofs.Kept.Decks.{no_run}
+use Rattle.looper_rules.proofs.Kept.Layers.{length-unmarked, unmarked-unmarked, total_seams-cons, length-with_current}
+use Rattle.looper_rules.proofs.Kept.Tracks.{KeepsTracks}
 
 -- the layers without the fresh marks of the current one
 abbrev pub cleared : {A : Type 0} → List (Layer A) → List (Layer A)

@@ -16,7 +16,7 @@ use Rattle.looper_rules.specs.Writing.{overwrites, meets_fresh, new_cell_fits, w
 use Rattle.looper_rules.specs.Loop.{Deck, Loop, length_of, with_stack}
 use Rattle.looper_rules.specs.States.{IsRecorded, IsOpenOver, HasCurrent, InMode, IsRun, AreWithin}
 use Rattle.looper_rules.specs.Reached.{AreOrdered, GoOnFrom, Unchanged, Keeps}
-use Rattle.looper_rules.proofs.KeptLayers.{total_seams-cons, length-with_current}
+use Rattle.looper_rules.proofs.Kept.Layers.{total_seams-cons, length-with_current}
 
 -- one frame more where there is room takes no chunk that isn't reached
 one_more_in_reach : (reach tape : ℕ) → has_room reach tape ≡ true → chunks_of tape ≤ reach → chunks_of (tape + 1) ≤ reach

@@ -15,8 +15,8 @@ use Rattle.looper_rules.specs.Loop.{Loop}
 use Rattle.looper_rules.specs.Starting.{records, layers_on, starts}
 use Rattle.looper_rules.specs.States.{IsOpenOver, AreClosed, ArePlayable, AreWritten, InMode, AreWithin, IsStack}
 use Rattle.looper_rules.specs.Reached.{AreOrdered, Unchanged, Keeps, IsLayering}
-use Rattle.looper_rules.proofs.KeptDecks.{refused_keeps, no_run}
-use Rattle.looper_rules.proofs.KeptLayers.{length-unmarked, total_seams-cons, chunks_of_le, current_end_within, ordered_within}
+use Rattle.looper_rules.proofs.Kept.Decks.{refused_keeps, no_run}
+use Rattle.looper_rules.proofs.Kept.Layers.{length-unmarked, total_seams-cons, chunks_of_le, current_end_within, ordered_within}
 
 -- an opening that isn't refused has a layer and seams left
 pub not_refused : (layers seams room : Bool) → first_refusal layers seams room ≡ Ok → (layers ≡ false) × (seams ≡ false)

@@ -22,10 +22,10 @@ use Rattle.looper_rules.specs.Saves.{told_cycle, strip_of}
 use Rattle.looper_rules.specs.Run.{controls_of, loaded_layer, first_track, first_tracks, start, begun, entered}
 use Rattle.looper_rules.specs.States.{IsClosed, IsOpenOver, AreClosed, HasCurrent, AreWaiting, InMode, AreWithin, IsLoop, IsTrack, IsLooper}
 use Rattle.looper_rules.specs.Reached.{Unchanged, Keeps, AreControls, KeepsTrack, KeepsLooper, AreLists, IsBeginning}
-use Rattle.looper_rules.proofs.KeptLayers.{contents-old_cells}
-use Rattle.looper_rules.proofs.KeptTracks.{used-cons, wet_within}
-use Rattle.looper_rules.proofs.KeptSettings.{dry_range}
-use Rattle.looper_rules.proofs.KeptRuns.{begun_keeps, entered_keeps}
+use Rattle.looper_rules.proofs.Kept.Layers.{contents-old_cells}
+use Rattle.looper_rules.proofs.Kept.Tracks.{used-cons, wet_within}
+use Rattle.looper_rules.proofs.Kept.Settings.{dry_range}
+use Rattle.looper_rules.proofs.Kept.Runs.{begun_keeps, entered_keeps}
 
 -- what a strip's settings say, one by one
 record InStrip (s : StripSettings) : Type 0 where

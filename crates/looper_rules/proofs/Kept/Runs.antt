@@ -12,9 +12,9 @@ use Rattle.looper_rules.specs.Frame.{at_boundary, at_boundaries, played_on, play
 use Rattle.looper_rules.specs.Entries.{applied}
 use Rattle.looper_rules.specs.Run.{entered, due, later, begun}
 use Rattle.looper_rules.specs.Reached.{KeepsLooper}
-use Rattle.looper_rules.proofs.KeptTracks.{on_loop_keeps, swept_keeps, played_keeps, at_boundary_keeps, gain_within, one_frame_more}
-use Rattle.looper_rules.proofs.KeptSettings.{dry_range}
-use Rattle.looper_rules.proofs.KeptEntries.{on_tracks, free_and_used, applied_keeps}
+use Rattle.looper_rules.proofs.Kept.Tracks.{on_loop_keeps, swept_keeps, played_keeps, at_boundary_keeps, gain_within, one_frame_more}
+use Rattle.looper_rules.proofs.Kept.Settings.{dry_range}
+use Rattle.looper_rules.proofs.Kept.Entries.{on_tracks, free_and_used, applied_keeps}
 
 -- the boundaries of a frame
 at_boundaries_keeps : {frame : ℕ} {l : Looper} (now : ℕ) → KeepsLooper frame l → KeepsLooper frame (at_boundaries now l)

@@ -9,8 +9,8 @@ use Rattle.looper_rules.specs.Verbs.{is_mode_of}
 use Rattle.looper_rules.specs.Presses.{never_waits, with_waiting, with_press, given_at_once, given, pressed, is_press_of, is_long, released_long, released, waiting_acts_from, waiting_acts}
 use Rattle.looper_rules.specs.States.{IsPressBefore}
 use Rattle.looper_rules.specs.Reached.{Unchanged, Keeps}
-use Rattle.looper_rules.proofs.KeptDecks.{with_deck}
-use Rattle.looper_rules.proofs.KeptVerbs.{acts_keeps}
+use Rattle.looper_rules.proofs.Kept.Decks.{with_deck}
+use Rattle.looper_rules.proofs.Kept.Verbs.{acts_keeps}
 
 -- what is left unchanged, with this press
 abbrev pub with_press_of : Option Held → Unchanged → Unchanged

@@ -16,8 +16,8 @@ use Rattle.looper_rules.specs.Looper.{Track, tape_of, reach_of, swept, at_index,
 use Rattle.looper_rules.specs.Frame.{at_boundary, played_on, played}
 use Rattle.looper_rules.specs.States.{IsPressBefore}
 use Rattle.looper_rules.specs.Reached.{Unchanged, Keeps, KeepsLoops, AreControls, unchanged_of, KeepsTrack}
-use Rattle.looper_rules.proofs.KeptPresses.{waiting_acts_keeps}
-use Rattle.looper_rules.proofs.KeptLoopFrame.{framed_keeps}
+use Rattle.looper_rules.proofs.Kept.Presses.{waiting_acts_keeps}
+use Rattle.looper_rules.proofs.Kept.LoopFrame.{framed_keeps}
 
 -- a loop keeps what it has, whatever was left unchanged, with its own controls and press and another reach
 pub own :

@@ -22,10 +22,10 @@ use Rattle.looper_rules.specs.Looper.{Asker, Track, Looper, tape_of, free_of, sw
 use Rattle.looper_rules.specs.Saves.{pinned_for, loop_released, session_released, session_refusal}
 use Rattle.looper_rules.specs.Entries.{is_taken, sets, asker_of, refusal_at, saves_loop, saves_session, releases, performed, applied}
 use Rattle.looper_rules.specs.Reached.{AreControls, KeepsTrack, KeepsLooper}
-use Rattle.looper_rules.proofs.KeptPresses.{given_keeps, pressed_keeps, released_keeps}
-use Rattle.looper_rules.proofs.KeptTracks.{own, KeepsTracks, on_loop_keeps, AreKept, swept_keeps, at_index_keeps, mapped_keeps}
-use Rattle.looper_rules.proofs.KeptSaves.{pinned_for_keeps, loop_released_keeps, session_released_keeps, session_released_tape}
-use Rattle.looper_rules.proofs.KeptSettings.{set_keeps, set_global_keeps}
+use Rattle.looper_rules.proofs.Kept.Presses.{given_keeps, pressed_keeps, released_keeps}
+use Rattle.looper_rules.proofs.Kept.Tracks.{own, KeepsTracks, on_loop_keeps, AreKept, swept_keeps, at_index_keeps, mapped_keeps}
+use Rattle.looper_rules.proofs.Kept.Saves.{pinned_for_keeps, loop_released_keeps, session_released_keeps, session_released_tape}
+use Rattle.looper_rules.proofs.Kept.Settings.{set_keeps, set_global_keeps}
 
 -- a list taken one by one is the list
 map-itself : (ts : List Track) → map itself ts ≡ ts

@@ -14,11 +14,11 @@ use Rattle.looper_rules.specs.Starting.{starts_record, starts, records, mode_aft
 use Rattle.looper_rules.specs.Verbs.{Column, InOff, InItsOwn, InAnother, Elsewhere, is_mode_of, column, unless_off, closes_then, mute_toggled, unmuted, pause_toggled, start_place, plays_from_start, ends, reversed_in, record_row, layer_row, length_row, mute_row, mute_on_row, mute_off_row, pause_row, start_row, reverse_row, row, acts_in, acts_waiting, acts}
 use Rattle.looper_rules.specs.States.{AreClosed, AreWaiting, InMode}
 use Rattle.looper_rules.specs.Reached.{Unchanged, Keeps, IsLayering}
-use Rattle.looper_rules.proofs.KeptDecks.{with_deck}
-use Rattle.looper_rules.proofs.KeptOpening.{records_keeps, starts_keeps}
-use Rattle.looper_rules.proofs.KeptClosing.{closed_keeps, closed_leads, IsClosedMode}
-use Rattle.looper_rules.proofs.KeptRest.{closed_layers, closed_redo, waiting_layers, quiet_run, run_in_quiet, IsResting, resting_is_quiet, playable, rests_again, resting_inside}
-use Rattle.looper_rules.proofs.KeptHistory.{closed_is_quiet, undo_keeps, redo_keeps, undo_all_keeps, redo_all_keeps}
+use Rattle.looper_rules.proofs.Kept.Decks.{with_deck}
+use Rattle.looper_rules.proofs.Kept.Opening.{records_keeps, starts_keeps}
+use Rattle.looper_rules.proofs.Kept.Closing.{closed_keeps, closed_leads, IsClosedMode}
+use Rattle.looper_rules.proofs.Kept.Rest.{closed_layers, closed_redo, waiting_layers, quiet_run, run_in_quiet, IsResting, resting_is_quiet, playable, rests_again, resting_inside}
+use Rattle.looper_rules.proofs.Kept.History.{closed_is_quiet, undo_keeps, redo_keeps, undo_all_keeps, redo_all_keeps}
 
 -- closing leaves the direction
 recording_direction : {A : Type 0} (empty single : Bool) (l : Loop A) → (closed_recording empty single l).deck.backward ≡ l.deck.backward

@@ -8,10 +8,10 @@ use Rattle.looper_rules.specs.Loop.{Loop, is_writing, is_off}
 use Rattle.looper_rules.specs.History.{closed_if, settled, stepped_back, undo, redo, undo_each, undo_all, redo_each, redo_all}
 use Rattle.looper_rules.specs.States.{AreClosed, InMode, IsRun}
 use Rattle.looper_rules.specs.Reached.{Unchanged, Keeps}
-use Rattle.looper_rules.proofs.KeptDecks.{with_deck}
-use Rattle.looper_rules.proofs.KeptLayers.{total_seams-cons}
-use Rattle.looper_rules.proofs.KeptClosing.{closed_keeps, closed_leads, IsClosedMode}
-use Rattle.looper_rules.proofs.KeptRest.{closed_layers, closed_redo, quiet_run, run_in_quiet, in_quiet}
+use Rattle.looper_rules.proofs.Kept.Decks.{with_deck}
+use Rattle.looper_rules.proofs.Kept.Layers.{total_seams-cons}
+use Rattle.looper_rules.proofs.Kept.Closing.{closed_keeps, closed_leads, IsClosedMode}
+use Rattle.looper_rules.proofs.Kept.Rest.{closed_layers, closed_redo, quiet_run, run_in_quiet, in_quiet}
 
 -- the loop in this mode, with these layers and redo layers
 abbrev pub so : {A : Type 0} → Mode → List (Layer A) → List (Layer A) → Loop A → Loop A

@@ -8,7 +8,7 @@ use Rattle.looper_rules.specs.Stack.{LastWrite}
 use Rattle.looper_rules.specs.Loop.{Loop, is_writing, is_off, length_of}
 use Rattle.looper_rules.specs.States.{AreClosed, ArePlayable, AreWaiting, InMode, IsRun}
 use Rattle.looper_rules.specs.Reached.{Unchanged, Keeps}
-use Rattle.looper_rules.proofs.KeptDecks.{with_deck}
+use Rattle.looper_rules.proofs.Kept.Decks.{with_deck}
 
 -- a writing mode is none of the others
 not_both : (b : Bool) → b ≡ true → b ≡ false → ⊥

@@ -13,8 +13,8 @@ use Rattle.looper_rules.specs.Loop.{Loop, is_writing, length_of, base_length_of}
 use Rattle.looper_rules.specs.Closing.{closing_cycle, closed_layer, finished_layer, finished, dropped, closes_as, closed_recording, multiply_cut, closed_from, closed}
 use Rattle.looper_rules.specs.States.{IsClosed, IsRecorded, IsOpenOver, AreClosed, HasCurrent, ArePlayable, InMode, AreWithin}
 use Rattle.looper_rules.specs.Reached.{AreOrdered, GoOnFrom, Unchanged, Keeps}
-use Rattle.looper_rules.proofs.KeptDecks.{no_run}
-use Rattle.looper_rules.proofs.KeptLayers.{length-unmarked, unmarked-unmarked, total_seams-cons, length-with_current}
+use Rattle.looper_rules.proofs.Kept.Decks.{no_run}
+use Rattle.looper_rules.proofs.Kept.Layers.{length-unmarked, unmarked-unmarked, total_seams-cons, length-with_current}
 
 -- the cycle of a layer that closes: its length where it has none yet
 closing_cycle-none : (cycle len : ℕ) → cycle ≡ 0 → closing_cycle cycle len ≡ len
