@@ -11,7 +11,8 @@ use sl_ports::Sink;
 
 /// Tells a text. A console that fails has a prefix of it.
 pub fn tell<C: Sink>(console: &mut C, text: &[u8])
-    ensures { Tells (C.faults console.old) (C.faults console.new) (C.held console.old) (C.held console.new) text.now }
+    ensures { Tells (C.faults console.old) (C.faults console.new)
+        (C.held console.old) (C.held console.new) text.now }
 {
     let _ = console.write_all(text);
 }
@@ -28,7 +29,8 @@ fn fault_text(fault: FileFault) -> &'static str
 
 /// Tells of a bad file.
 pub fn tell_bad_file<C: Sink>(console: &mut C, name: &Name, fault: FileFault)
-    ensures { Tells (C.faults console.old) (C.faults console.new) (C.held console.old) (C.held console.new) (bad_file_text name.now fault) }
+    ensures { Tells (C.faults console.old) (C.faults console.new)
+        (C.held console.old) (C.held console.new) (bad_file_text name.now fault) }
 {
     let mut text: ArrayString<128> = ArrayString::new();
     text.push_str("file ");

@@ -28,7 +28,8 @@ struct Made {
 
 /// Tells why a file gave nothing. It takes no memory.
 fn refuse<C: Sink>(console: &mut C, name: &Name, unread: Unread) -> Status
-    ensures { Refuses unread name.now (λ text. Tells (C.faults console.old) (C.faults console.new) (C.held console.old) (C.held console.new) text) result }
+    ensures { Refuses unread name.now (Tells (C.faults console.old) (C.faults console.new)
+        (C.held console.old) (C.held console.new)) result }
 {
     match unread {
         Unread::Bad(fault) => {

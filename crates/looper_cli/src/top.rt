@@ -59,7 +59,8 @@ pub fn plain_run<P: Keeper, C: Sink>(
 
     // 2 comes exactly where the words aren't in the grammar.
     ensures words { (result ≡ 2) ↔ (names_in (map string_bytes words.now) ≡ None) }
-    ensures words_text { let Told = Tells (C.faults console.old) (C.faults console.new) (C.held console.old) (C.held console.new)
+    ensures words_text { let Told = Tells (C.faults console.old) (C.faults console.new)
+        (C.held console.old) (C.held console.new)
         in result ≡ 2 → Told words_text }
 
     // At 0, OUT is the WAV text of the run over what IN and JOURNAL held, and no count rose.
@@ -72,25 +73,31 @@ pub fn plain_run<P: Keeper, C: Sink>(
         × (C.faults console.new ≡ C.faults console.old) }
 
     // 3 comes exactly where IN, or else JOURNAL, is missing or in another form, unless 4 or 8 does.
-    ensures bad_file { let Told = Tells (C.faults console.old) (C.faults console.new) (C.held console.old) (C.held console.new)
+    ensures bad_file { let Told = Tells (C.faults console.old) (C.faults console.new)
+        (C.held console.old) (C.held console.new)
         in result ≡ 3 → IfSome (names_in (map string_bytes words.now)) (λ names.
         NamesBad names (P.files keeper.old) Told) }
-    ensures bad_file_always { IfSome (names_in (map string_bytes words.now)) (λ names. IfSome (P.files keeper.old) (λ files.
+    ensures bad_file_always { IfSome (names_in (map string_bytes words.now)) (λ names.
+        IfSome (P.files keeper.old) (λ files.
         (name : List ℕ) (fault : FileFault) → IsFirstBad names (Some files) name fault →
         (result ≡ 3) ⊎ (result ≡ 4) ⊎ (result ≡ 8))) }
 
     // 4 comes only where the count of readings rose, 5 only where the count of writes or the console's did.
-    ensures read_fault { let Told = Tells (C.faults console.old) (C.faults console.new) (C.held console.old) (C.held console.new)
+    ensures read_fault { let Told = Tells (C.faults console.old) (C.faults console.new)
+        (C.held console.old) (C.held console.new)
         in result ≡ 4 → Rose (P.read_faults keeper.old) (P.read_faults keeper.new) × Told read_fault_text }
-    ensures write_fault { let Told = Tells (C.faults console.old) (C.faults console.new) (C.held console.old) (C.held console.new)
+    ensures write_fault { let Told = Tells (C.faults console.old) (C.faults console.new)
+        (C.held console.old) (C.held console.new)
         in let ToldInPart = AppendsPrefix (C.held console.old) (C.held console.new)
         in result ≡ 5 → IfSome (names_in (map string_bytes words.now)) (λ names.
-        FailsToWrite names (P.files keeper.old) (P.files keeper.new) (P.write_faults keeper.old) (P.write_faults keeper.new) Told
+        FailsToWrite names (P.files keeper.old) (P.files keeper.new)
+        (P.write_faults keeper.old) (P.write_faults keeper.new) Told
         ⊎ (Rose (C.faults console.old) (C.faults console.new)
         × Renders names (P.files keeper.old) (P.files keeper.new) ToldInPart)) }
 
     // Files change at 0 and 5 alone.
-    ensures unchanged { (result ≡ 2) ⊎ (result ≡ 3) ⊎ (result ≡ 4) ⊎ (result ≡ 8) → P.files keeper.new ≡ P.files keeper.old }
+    ensures unchanged { (result ≡ 2) ⊎ (result ≡ 3) ⊎ (result ≡ 4) ⊎ (result ≡ 8) →
+        P.files keeper.new ≡ P.files keeper.old }
 {
     match words_of(words) {
         Ok(words) => run_words(alloc, &words, keeper, console).number(),
