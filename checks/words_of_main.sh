@@ -1,0 +1,29 @@
+#!/bin/sh
+# words_of_main.sh PROGRAM: `--version` and `--help` as the only word print one line and the page of usage, with status 0. With
+# another word behind them they are words outside the grammar, status 2.
+# The last line is `N passed, N failed`. The status is 0 where none failed.
+program=$1
+passed=0
+failed=0
+
+# try STATUS FIRST_LINE WORD..: runs the words, and compares the status and the first line.
+try() {
+    status=$1
+    line=$2
+    shift 2
+    text=$("$program" "$@")
+    got=$?
+    if [ $got -eq "$status" ] && [ "$(printf '%s\n' "$text" | head -n 1)" = "$line" ]; then
+        passed=$((passed + 1))
+    else
+        failed=$((failed + 1))
+        echo "$*: status $got, $text"
+    fi
+}
+
+try 0 'looper 1.0.0' --version
+try 0 'looper: records a phrase into a loop and lets it repeat' --help
+try 2 'status 2' --version --help
+try 2 'status 2'
+echo "$passed passed, $failed failed"
+[ $failed -eq 0 ]
