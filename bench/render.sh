@@ -4,7 +4,7 @@
 #
 #   bench/render.sh PROGRAM [FRAMES [RUNS]]
 #
-# Prints wall and processor seconds and the greatest memory of each run, and the least of each with their ratio.
+# Prints wall and processor seconds and the greatest memory of each run, and the least and the median of each with the ratio.
 # It needs python3 and GNU time.
 set -eu
 program=$(realpath "$1")
@@ -42,18 +42,23 @@ if command -v sox >/dev/null; then
     measure sox sox in.wav out.wav
 fi
 python3 - "$frames" <<'PY'
+import statistics
 import sys
 frames = int(sys.argv[1])
-best = {}
+runs = {}
 print('program   wall s   user s   system s   greatest memory KiB   bytes a frame')
 for line in open('times'):
     name, wall, user, system, memory = line.split()
     print('%-9s %6s %8s %10s %21s %15.1f' % (name, wall, user, system, memory, int(memory) * 1024 / frames))
-    row = (float(wall), float(user) + float(system), int(memory))
-    best[name] = tuple(min(a, b) for a, b in zip(best.get(name, row), row))
-for name, (wall, processor, memory) in best.items():
-    print('least %s: wall %.2f s, processor %.2f s, %.1f million frames a second, %.1f bytes a frame'
-          % (name, wall, processor, frames / max(wall, 0.001) / 1e6, memory * 1024 / frames))
-if 'sox' in best:
-    print('rate against sox: wall %.2f, processor %.2f' % (best['sox'][0] / best['looper'][0], best['sox'][1] / best['looper'][1]))
+    runs.setdefault(name, []).append((float(wall), float(user) + float(system), int(memory)))
+told = {}
+for word, pick in (('least', min), ('median', statistics.median)):
+    for name, rows in runs.items():
+        wall, processor, memory = (pick(column) for column in zip(*rows))
+        told[word, name] = wall, processor
+        print('%s %s: wall %.2f s, processor %.2f s, %.1f million frames a second, %.1f bytes a frame'
+              % (word, name, wall, processor, frames / max(wall, 0.001) / 1e6, memory * 1024 / frames))
+    if 'sox' in runs:
+        print('%s rate against sox: wall %.2f, processor %.2f' % (
+            word, told[word, 'sox'][0] / told[word, 'looper'][0], told[word, 'sox'][1] / told[word, 'looper'][1]))
 PY
