@@ -12,12 +12,15 @@ pub mod Verbs
 pub mod Presses
 pub mod Boundaries
 pub mod Gains
+pub mod GainSpans
 pub mod LoopFrame
+pub mod FacesLater
 pub mod Values
 pub mod Looper
 pub mod Saves
 pub mod Entries
 pub mod Frame
+pub mod TrackSpans
 pub mod Run
 pub mod Cuts
 pub mod Places
