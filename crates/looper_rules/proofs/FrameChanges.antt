@@ -14,8 +14,7 @@ use Rattle.looper_rules.specs.Writing.{extension_fits, extended}
 use Rattle.looper_rules.specs.Loop.{Loop, is_writing, length_of, at_place, refused_once, with_stack}
 use Rattle.looper_rules.specs.Closing.{closed, at_stop}
 use Rattle.looper_rules.specs.Starting.{records, leaves_wait}
-use Rattle.looper_rules.specs.LoopFrame.{awake_in, wakes_as, stopped, extends, ready_in, sound_at, new_frame, how_in, fits, with_input, wraps, wrapped_mode, goes_on, stops_if, lengthens, advanced_in, overrun_in, writes, passes, after}
-use Rattle.looper_rules.specs.Undoing.{frame_later}
+use Rattle.looper_rules.specs.LoopFrame.{awake_in, wakes_as, stopped, extends, ready_in, sound_at, new_frame, how_in, fits, with_input, wraps, wrapped_mode, goes_on, stops_if, lengthens, advanced_in, overrun_in, writes, passes, after, frame_later}
 use Rattle.looper_rules.proofs.StackChanges.{IsSame, IsTouched, IsSettled, IsDone, same, same_touched, touched_on, settled_same, touched_settled, touched_then_settled, settled_done}
 use Rattle.looper_rules.proofs.StackSteps.{run_broken_same, extended_touched, written_touched, first_frame_fits, opened_then_touched, room_for_one, opening_tests, opened_in_reach}
 use Rattle.looper_rules.proofs.Kept.Verbs.{set_to}

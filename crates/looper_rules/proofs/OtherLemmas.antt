@@ -22,7 +22,7 @@ use Rattle.looper_rules.specs.Saves.{pinned_for, freed_if, loop_asker, session_a
 use Rattle.looper_rules.specs.Entries.{sets, saves_loop, saves_session, releases, performed, is_taken, applied, refusal_at, asker_of}
 use Rattle.looper_rules.specs.Frame.{at_boundary, at_boundaries, played_on, played, framed_from}
 use Rattle.looper_rules.specs.OtherLayers.{OthersStay, OthersStayOnAll}
-use Rattle.looper_rules.specs.Undoing.{frame_later}
+use Rattle.looper_rules.specs.LoopFrame.{frame_later}
 use Rattle.looper_rules.proofs.StackChanges.{IsDone, same_touched, touched_settled, settled_done}
 use Rattle.looper_rules.proofs.StackSteps.{pinned_touched, unpinned_same}
 use Rattle.looper_rules.proofs.LoopChanges.{acts_done, nothing_done}

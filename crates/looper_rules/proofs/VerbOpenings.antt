@@ -15,9 +15,9 @@ use Rattle.looper_rules.specs.Closing.{closed_recording, closed_from, closed}
 use Rattle.looper_rules.specs.Starting.{records, starts_record, layers_on, starts, mode_after_wait, leaves_wait}
 use Rattle.looper_rules.specs.History.{closed_if, settled, undone, redone}
 use Rattle.looper_rules.specs.Verbs.{Column, InOff, InItsOwn, InAnother, Elsewhere, is_mode_of, column, unless_off, layer_row, length_row, row, acts_in, acts_from, acts}
-use Rattle.looper_rules.specs.LoopFrame.{wakes_as, awake_in, awake}
+use Rattle.looper_rules.specs.LoopFrame.{wakes_as, awake_in, awake, frame_later}
 use Rattle.looper_rules.specs.OtherLayers.{CountsRefusal}
-use Rattle.looper_rules.specs.Undoing.{frame_later, opens_as, IsOpenedFrom, for_record, for_mode}
+use Rattle.looper_rules.specs.Undoing.{opens_as, IsOpenedFrom, for_record, for_mode}
 use Rattle.looper_rules.proofs.RefusalLemmas.{records_refused, starts_refused}
 use Rattle.looper_rules.proofs.FrameChanges.{once_awake}
 use Rattle.looper_rules.proofs.Kept.Verbs.{set_to}

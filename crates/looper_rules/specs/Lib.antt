@@ -15,6 +15,7 @@ pub mod Gains
 pub mod GainSpans
 pub mod LoopFrame
 pub mod FacesLater
+pub mod LoopSpans
 pub mod Values
 pub mod Looper
 pub mod Saves

@@ -165,3 +165,7 @@ passes false x reach l = advanced l
 -- the loop after a frame for which it is ready
 abbrev pub after : Sound → ℕ → Loop Sound → Loop Sound
 after x reach l = passes (is_writing l.deck.mode) x reach l
+
+-- one frame of a loop
+abbrev pub frame_later : Sound → ℕ → Loop Sound → Loop Sound
+frame_later x reach l = after x reach (ready x reach l)

@@ -15,12 +15,8 @@ use Rattle.sl_commands.specs.declared.Started.TheVariants.{Ok}
 use Rattle.looper_rules.specs.Layers.{Layer, unmarked}
 use Rattle.looper_rules.specs.Loop.{Loop, is_writing, with_stack}
 use Rattle.looper_rules.specs.Starting.{records, layers_on}
-use Rattle.looper_rules.specs.LoopFrame.{ready, after}
+use Rattle.looper_rules.specs.LoopFrame.{frame_later}
 use Rattle.looper_rules.specs.Saves.{pinned}
-
--- one frame of a loop
-abbrev pub frame_later : Sound → ℕ → Loop Sound → Loop Sound
-frame_later x reach l = after x reach (ready x reach l)
 
 -- the mode for which a verb opens a copy of the list in this direction
 abbrev pub opens_as : Verb → Bool → Option Mode

@@ -16,11 +16,11 @@ ghost use Rattle.looper_rules.specs.Loop.{Loop, refused_once};
 ghost use Rattle.looper_rules.specs.History.{settled};
 ghost use Rattle.looper_rules.specs.Starting.{starts_record, starts, leaves_wait};
 ghost use Rattle.looper_rules.specs.Verbs.{acts};
-ghost use Rattle.looper_rules.specs.LoopFrame.{awake};
+ghost use Rattle.looper_rules.specs.LoopFrame.{awake, frame_later};
 ghost use Rattle.looper_rules.specs.Looper.{Looper};
 ghost use Rattle.looper_rules.specs.Entries.{applied};
 ghost use Rattle.looper_rules.specs.Frame.{at_boundaries, framed};
-ghost use Rattle.looper_rules.specs.Undoing.{frame_later, opens_as};
+ghost use Rattle.looper_rules.specs.Undoing.{opens_as};
 ghost use Rattle.looper_rules.specs.OtherLayers.{OthersStay, OthersStayOnAll, CountsRefusal};
 
 /// The layers that aren't the current one stay as they are, in their order, but for the redo layers that an opening drops.

@@ -15,7 +15,7 @@ ghost use Rattle.looper_rules.specs.Looper.{Track, Looper, tape_of, faces_of, it
 ghost use Rattle.looper_rules.specs.Entries.{sets};
 ghost use Rattle.looper_rules.specs.Frame.{at_boundary, at_boundaries, played, played_on, all_played};
 ghost use Rattle.looper_rules.specs.States.{IsLooper};
-ghost use Rattle.looper_rules.specs.Undoing.{frame_later};
+ghost use Rattle.looper_rules.specs.LoopFrame.{frame_later};
 ghost use Rattle.looper_rules.specs.Sharing.{tapes_of, has_room_among, left_by, in_turn, in_turn_at, SharesChunks, StaysInReach};
 
 /// The room that passes on from loop to loop is the written test on what all loops use: those before, in the order of

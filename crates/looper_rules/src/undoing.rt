@@ -12,8 +12,8 @@ ghost use Rattle.looper_rules.specs.Opening.{opening};
 ghost use Rattle.looper_rules.specs.Loop.{Loop, is_writing, length_of};
 ghost use Rattle.looper_rules.specs.History.{settled};
 ghost use Rattle.looper_rules.specs.Verbs.{acts};
-ghost use Rattle.looper_rules.specs.LoopFrame.{awake};
-ghost use Rattle.looper_rules.specs.Undoing.{frame_later, opens_as, IsOpenedFrom, StaysOpen, StandsClosed};
+ghost use Rattle.looper_rules.specs.LoopFrame.{awake, frame_later};
+ghost use Rattle.looper_rules.specs.Undoing.{opens_as, IsOpenedFrom, StaysOpen, StandsClosed};
 
 /// A writing verb opens the loop, once its open layer is closed, where the opening is granted and the mode isn't the
 /// verb's own. A loud frame opens a loop in WaitStart.

@@ -1,5 +1,5 @@
 use Rattle.looper_rules.specs.Verbs.{acts}
-use Rattle.looper_rules.specs.Undoing.{frame_later}
+use Rattle.looper_rules.specs.LoopFrame.{frame_later}
 use Rattle.looper_rules.specs.Frame.{at_boundaries}
 use Rattle.looper_rules.proofs.StackChanges.{IsDone}
 use Rattle.looper_rules.proofs.LoopChanges.{acts_done}

@@ -1,6 +1,6 @@
 use Rattle.looper_rules.specs.Looper.{faces_of, itself, on_loop}
 use Rattle.looper_rules.specs.Frame.{at_boundary, played, played_on}
-use Rattle.looper_rules.specs.Undoing.{frame_later}
+use Rattle.looper_rules.specs.LoopFrame.{frame_later}
 use Rattle.looper_rules.proofs.StackChanges.{IsDone}
 use Rattle.looper_rules.proofs.FrameChanges.{frame_done}
 use Rattle.looper_rules.proofs.OtherLemmas.{at_boundary_done}

@@ -1,6 +1,6 @@
 use Rattle.looper_rules.specs.Presses.{given, released}
 use Rattle.looper_rules.specs.Frame.{at_boundary}
-use Rattle.looper_rules.specs.Undoing.{frame_later}
+use Rattle.looper_rules.specs.LoopFrame.{frame_later}
 use Rattle.looper_rules.proofs.StackChanges.{IsDone}
 use Rattle.looper_rules.proofs.FrameChanges.{frame_done}
 use Rattle.looper_rules.proofs.OtherLemmas.{given_done, released_done, at_boundary_done}
