@@ -19,7 +19,7 @@ use Rattle.sl_commands.specs.declared.What.TheVariants.{Value, Save as OfLoop, S
 use Rattle.sl_commands.specs.Entries.{is_valid}
 use Rattle.looper_rules.specs.Loop.{Loop}
 use Rattle.looper_rules.specs.Presses.{given, pressed, released}
-use Rattle.looper_rules.specs.Values.{loop_value, global_value, told, with_control, with_global}
+use Rattle.looper_rules.specs.Values.{loop_value, global_value, reply_value, with_control, with_global}
 use Rattle.looper_rules.specs.Looper.{Asker, Track, Looper, face_on, free_of, at_index, on_target, index_of}
 use Rattle.looper_rules.specs.Saves.{Save, list_on, pinned_for, settings_of, save_refusal, session_refusal, loop_asker, running_session, loop_released, session_released}
 
@@ -32,8 +32,8 @@ abbrev pub track_of : Target → Looper → Option Track
 track_of target l = slice_get l.tracks (index_of target l.globals.selected_loop_num)
 
 -- the index of the track that a target of one loop names, as a reply tells it
-abbrev pub told_index : Target → Looper → ℤ
-told_index target l = pos (index_of target l.globals.selected_loop_num)
+abbrev pub reply_index : Target → Looper → ℤ
+reply_index target l = pos (index_of target l.globals.selected_loop_num)
 
 -- the loop with a control set
 abbrev pub sets : {A : Type 0} → Control → ℤ → ℕ → Loop A → Loop A
@@ -107,7 +107,7 @@ outcome_for index what outcome asker =
 
 -- the value of a control of a track
 abbrev pub value_on : Control → ℕ → Track → ℤ
-value_on control free t = told (pos (loop_value control free t.loop.controls (face_on t)))
+value_on control free t = reply_value (pos (loop_value control free t.loop.controls (face_on t)))
 
 -- the asker whose save a release of this index ends
 abbrev pub ended_asker : ℕ → Looper → Option Asker
@@ -122,11 +122,11 @@ release_reply Selected outcome l = None
 -- the reply to the command of a valid entry
 abbrev pub reply_of : Command → Entry → Looper → Option Reply
 reply_of (Get target control) e l =
-    option_map (λ t. reply_to e (told_index target l) (Value control) (value_on control (free_of l.chunks l.tracks) t)) (track_of target l)
+    option_map (λ t. reply_to e (reply_index target l) (Value control) (value_on control (free_of l.chunks l.tracks) t)) (track_of target l)
 reply_of (GetGlobal control) e l =
-    Some (reply_to e (negsuc 1) (Value control) (told (global_value control l.globals)))
+    Some (reply_to e (negsuc 1) (Value control) (reply_value (global_value control l.globals)))
 reply_of (SaveLoop target name) e l =
-    option_map (λ refusal. reply_to e (told_index target l) OfLoop (pos refusal)) (refusal_at target l)
+    option_map (λ refusal. reply_to e (reply_index target l) OfLoop (pos refusal)) (refusal_at target l)
 reply_of (SaveSession name) e l =
     option_map (λ refusal. reply_to e (negsuc 1) OfSession (pos refusal)) (session_refusal l.tracks)
 reply_of (Release target outcome) e l = release_reply target outcome l

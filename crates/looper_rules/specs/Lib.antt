@@ -24,14 +24,9 @@ pub mod Frame
 pub mod TrackSpans
 pub mod Run
 pub mod Cuts
-pub mod Places
-pub mod Questions
 pub mod Pins
 pub mod States
 pub mod Reached
-pub mod OtherLayers
-pub mod Undoing
 pub mod Sharing
 pub mod Worked
 pub mod OneLoop
-pub mod SingleRun

@@ -118,7 +118,7 @@ later frame [] = []
 later frame (e ∷ es) = if nat_le e.frame frame then later frame es else e ∷ es
 
 -- what some frames gave and left: the entries that are left, and the looper
-pub record Begun : Type 0 where
+pub record RunSoFar : Type 0 where
   pub output : List Sound
   pub replies : List Reply
   pub saves : List Save
@@ -126,7 +126,7 @@ pub record Begun : Type 0 where
   pub looper : Looper
 
 -- what the entries and the output of one frame gave, before what the frames behind it gave
-abbrev pub begun_before : Entered → Sound → Begun → Begun
+abbrev pub begun_before : Entered → Sound → RunSoFar → RunSoFar
 begun_before before sound rest =
     record rest {
       output = sound ∷ rest.output;
@@ -135,7 +135,7 @@ begun_before before sound rest =
     }
 
 -- these frames, of which the first has this number
-abbrev pub begun : ℕ → List Entry → List Sound → Looper → Begun
+abbrev pub begun : ℕ → List Entry → List Sound → Looper → RunSoFar
 begun frame es [] l = record { output = []; replies = []; saves = []; left = es; looper = l }
 begun frame es (x ∷ xs) l =
     let before = entered frame (due frame es) l
@@ -150,7 +150,7 @@ pub record Ran : Type 0 where
   pub looper : Looper
 
 -- what the frames gave, and behind it what the entries that were left gave
-abbrev pub ended_with : Begun → Entered → Ran
+abbrev pub ended_with : RunSoFar → Entered → Ran
 ended_with b last =
     record {
       output = b.output;
@@ -160,7 +160,7 @@ ended_with b last =
     }
 
 -- the run of frames that end before this one
-abbrev pub ended : ℕ → Begun → Ran
+abbrev pub ended : ℕ → RunSoFar → Ran
 ended frame b = ended_with b (entered frame b.left b.looper)
 
 -- the run of entries over an input, from a looper

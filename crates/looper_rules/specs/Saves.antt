@@ -61,16 +61,16 @@ abbrev pub freed : Track → Track
 freed t = record t { loop = with_stack (unpinned t.loop.stack) t.loop; asker = None }
 
 -- the cycle that a save tells of a loop in this mode
-abbrev pub told_cycle : Mode → ℕ → ℕ → ℕ
-told_cycle Recording len cycle = len
-told_cycle _ len cycle = cycle
+abbrev pub saved_cycle : Mode → ℕ → ℕ → ℕ
+saved_cycle Recording len cycle = len
+saved_cycle _ len cycle = cycle
 
 -- the settings of a loop
 abbrev pub strip_of : {A : Type 0} → Loop A → StripSettings
 strip_of l =
     record {
       length = length_of l;
-      cycle = told_cycle l.deck.mode (length_of l) (cycle_of l);
+      cycle = saved_cycle l.deck.mode (length_of l) (cycle_of l);
       feedback = l.controls.feedback;
       wet = l.controls.wet;
       round = l.controls.round;

@@ -2,12 +2,16 @@
 -- A closed layer has a list of 1 to 16777216 frames, none fresh, no base, and a cycle of 1 to its length.
 -- In a writing mode the current layer is open, the others are closed, and there are no redo layers. In every mode but
 -- Off, WaitStart and Recording the list isn't empty, its cycle is at least 1, and pos lies below its length; in
--- Multiplying pos may also be the length. The same holds in WaitStart where there is a layer. In Off there is no layer.
+-- Multiplying pos may also be the length. The same holds in WaitStart where there is a layer. In Off there is no layer,
+-- and pos is 0 there and in WaitStart without a layer.
 -- In Recording pos is the length and the cycle is 0. The base of an open layer isn't longer than its list, and in another
 -- writing mode than Recording it isn't empty. In Recording, Multiplying and Inserting the direction is forward.
 -- A run goes on in a writing mode alone, and then the next write is the one that continues it.
 -- Layers and redo layers together are at most 256, with at most 65536 seams; each end and the pin are at most the tape
--- length. What all tapes use is at most the chunks. A pin stands exactly where someone asked for a save.
+-- length. No layer ends before the one below it, and the redo layers, in the order in which they come back, go on so
+-- from the current one: so an opening can take the tape back to the current layer's end. What all tapes use is at most
+-- the chunks. A pin stands exactly where someone asked for a save. Rate, controls and gains lie in their ranges, and no
+-- press is later than the frame.
 -- "States: what always holds" in docs/rules.md.
 use Rattle.std.specs.Prelude.{◌≡◌, ℕ, ◌+◌, ◌≤◌, ◌<◌, ⊤, Bool, false, IsTrue, List, [], ◌∷◌, length, map, Option, Some, None, is_some}
 use Rattle.std.specs.List.{AllByRecursion}
@@ -16,15 +20,16 @@ use Rattle.sl_commands.specs.declared.Mode.TheVariants.{Off, WaitStart, Recordin
 use Rattle.sl_commands.specs.declared.How.{How}
 use Rattle.sl_commands.specs.declared.How.TheVariants.{Forward, Backward, Insert, Append}
 use Rattle.sl_commands.specs.declared.Held.{Held}
-use Rattle.sl_commands.specs.Settings.{max_length, are_globals, is_strip, is_loop_count}
+use Rattle.sl_commands.specs.Settings.{max_length, are_globals, is_loop_count, is_rate}
 use Rattle.looper_rules.specs.Limits.{max_layers, max_seams, max_value}
-use Rattle.looper_rules.specs.Layers.{Layer, unmarked, total_seams, current_length}
+use Rattle.looper_rules.specs.Layers.{Layer, unmarked, total_seams, current_length, current_end}
 use Rattle.looper_rules.specs.Stack.{Stack, LastWrite, pinned_tape}
 use Rattle.looper_rules.specs.Room.{used}
 use Rattle.looper_rules.specs.Loop.{Loop}
 use Rattle.looper_rules.specs.LoopFrame.{how_in}
+use Rattle.looper_rules.specs.Values.{AreControls}
 use Rattle.looper_rules.specs.Looper.{Track, Looper, tape_of}
-use Rattle.looper_rules.specs.Saves.{is_pinned, strip_of}
+use Rattle.looper_rules.specs.Saves.{is_pinned}
 
 -- a closed layer
 pub record IsClosed {A : Type 0} (l : Layer A) : Type 0 where
@@ -61,9 +66,13 @@ HasCurrent Kind (l ∷ ls) = Kind l × AreClosed ls
 abbrev pub ArePlayable : {A : Type 0} → List (Layer A) → ℕ → Type 0
 ArePlayable layers pos = AreClosed layers × (pos < current_length layers)
 
--- the layers and pos in Off or WaitStart: none, or they can be played
+-- the layers and pos in Off: none, and pos is 0
+abbrev pub AreNone : {A : Type 0} → List (Layer A) → ℕ → Type 0
+AreNone layers pos = (layers ≡ []) × (pos ≡ 0)
+
+-- the layers and pos in WaitStart: as in Off, or they can be played
 abbrev pub AreWaiting : {A : Type 0} → List (Layer A) → ℕ → Type 0
-AreWaiting [] pos = ⊤
+AreWaiting [] pos = pos ≡ 0
 AreWaiting (l ∷ ls) pos = ArePlayable (l ∷ ls) pos
 
 -- the layers, redo layers, pos and direction of a writing mode over a list
@@ -72,7 +81,7 @@ AreWritten layers redo pos = HasCurrent IsOpenOver layers × (redo ≡ []) × (p
 
 -- what a mode says of layers, redo layers, pos and direction
 abbrev pub InMode : {A : Type 0} → Mode → List (Layer A) → List (Layer A) → ℕ → Bool → Type 0
-InMode Off layers redo pos backward = (layers ≡ []) × AreClosed redo
+InMode Off layers redo pos backward = AreNone layers pos × AreClosed redo
 InMode WaitStart layers redo pos backward = AreWaiting layers pos × AreClosed redo
 InMode Recording layers redo pos backward = HasCurrent IsRecorded layers × (redo ≡ []) × (pos ≡ current_length layers) × (backward ≡ false)
 InMode Overdubbing layers redo pos backward = AreWritten layers redo pos
@@ -111,13 +120,25 @@ IsRun _ run pos backward = run ≡ None
 abbrev pub AreWithin : {A : Type 0} → ℕ → List (Layer A) → Type 0
 AreWithin tape layers = AllByRecursion (λ l. (length l.cells ≤ max_length) × (l.end ≤ tape)) layers
 
--- the limits of a stack
+-- no layer ends before the one below it
+abbrev pub AreOrdered : {A : Type 0} → List (Layer A) → Type 0
+AreOrdered [] = ⊤
+AreOrdered (l ∷ ls) = (current_end ls ≤ l.end) × AreOrdered ls
+
+-- redo layers whose ends go on from this one
+abbrev pub GoOnFrom : {A : Type 0} → ℕ → List (Layer A) → Type 0
+GoOnFrom end [] = ⊤
+GoOnFrom end (l ∷ ls) = (end ≤ l.end) × GoOnFrom l.end ls
+
+-- the limits of a stack, and the order of its ends
 pub record IsStack {A : Type 0} (s : Stack A) : Type 0 where
   pub layers_within : AreWithin s.tape s.layers
   pub redo_within : AreWithin s.tape s.redo
   pub pin_within : pinned_tape s.pin ≤ s.tape
   pub count : length s.layers + length s.redo ≤ max_layers
   pub seams : total_seams s.layers + total_seams s.redo ≤ max_seams
+  pub order : AreOrdered s.layers
+  pub redo_order : GoOnFrom (current_end s.layers) s.redo
 
 -- what always holds of a loop
 pub record IsLoop {A : Type 0} (l : Loop A) : Type 0 where
@@ -134,7 +155,7 @@ IsPressBefore frame (Some press) = press.frame ≤ frame
 -- what always holds of a track, when so many frames are done
 pub record IsTrack (frame : ℕ) (t : Track) : Type 0 where
   pub loop : IsLoop t.loop
-  pub strip : IsTrue (is_strip (strip_of t.loop))
+  pub controls : AreControls t.loop.controls
   pub gain : t.gain ≤ 1000
   pub press : IsPressBefore frame t.loop.deck.press
   pub asker : is_some t.asker ≡ is_pinned t.loop
@@ -142,6 +163,7 @@ pub record IsTrack (frame : ℕ) (t : Track) : Type 0 where
 -- what always holds of a looper, when so many frames are done
 pub record IsLooper (frame : ℕ) (l : Looper) : Type 0 where
   pub tracks : AllByRecursion (IsTrack frame) l.tracks
+  pub rate : IsTrue (is_rate l.rate)
   pub count : IsTrue (is_loop_count (length l.tracks))
   pub globals : IsTrue (are_globals (length l.tracks) l.globals)
   pub dry : l.dry ≤ 1000

@@ -7,7 +7,7 @@
 -- Inserting while rounding; else the number of the mode.
 -- A set of a control puts its value in place of the one before.
 -- "Values" in docs/rules.md.
-use Rattle.std.specs.Prelude.{ℕ, min, ℤ, pos, negsuc, unsigned_abs, Bool, true, false, Option, Some, is_some, if◌then◌else◌}
+use Rattle.std.specs.Prelude.{ℕ, min, ℤ, pos, negsuc, unsigned_abs, Bool, true, false, IsTrue, Option, Some, is_some, if◌then◌else◌}
 use Rattle.sl_commands.specs.declared.Verb.{Verb}
 use Rattle.sl_commands.specs.declared.Verb.TheVariants.{Rec}
 use Rattle.sl_commands.specs.declared.Mode.{Mode}
@@ -16,6 +16,7 @@ use Rattle.sl_commands.specs.declared.Control.{Control}
 use Rattle.sl_commands.specs.declared.Control.TheVariants.{Feedback, Wet, Round, Quantize, RecThresh, State, LoopLen, LoopPos, CycleLen, Waiting, Layers, RedoLayers, Refused, Reversed, FreeTime, Dry, SyncSource, SelectedLoopNum, FadeStep, LongPress, Pulse}
 use Rattle.sl_commands.specs.declared.Face.{Face}
 use Rattle.sl_commands.specs.declared.Globals.{Globals}
+use Rattle.sl_commands.specs.Controls.{is_in_range}
 use Rattle.looper_rules.specs.Limits.{max_value}
 use Rattle.looper_rules.specs.Room.{free_time}
 use Rattle.looper_rules.specs.Loop.{Controls}
@@ -87,9 +88,9 @@ global_value Pulse g = pos g.pulse
 global_value _ g = pos 0
 
 -- a value as a reply tells it
-abbrev pub told : ℤ → ℤ
-told (pos n) = pos (min n max_value)
-told (negsuc n) = negsuc n
+abbrev pub reply_value : ℤ → ℤ
+reply_value (pos n) = pos (min n max_value)
+reply_value (negsuc n) = negsuc n
 
 -- a loop's controls with one set
 abbrev pub with_control : Control → ℕ → Controls → Controls
@@ -99,6 +100,14 @@ with_control Round value c = record c { round = value }
 with_control Quantize value c = record c { quantize = value }
 with_control RecThresh value c = record c { rec_thresh = value }
 with_control _ value c = c
+
+-- a loop's controls lie in their ranges
+pub record AreControls (c : Controls) : Type 0 where
+  pub feedback : IsTrue (is_in_range Feedback (pos c.feedback) 0)
+  pub wet : IsTrue (is_in_range Wet (pos c.wet) 0)
+  pub round : IsTrue (is_in_range Round (pos c.round) 0)
+  pub quantize : IsTrue (is_in_range Quantize (pos c.quantize) 0)
+  pub rec_thresh : IsTrue (is_in_range RecThresh (pos c.rec_thresh) 0)
 
 -- the looper's controls with one set
 abbrev pub with_global : Control → ℤ → Globals → Globals

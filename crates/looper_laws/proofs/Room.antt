@@ -1,0 +1,2 @@
+-- What room loops leave one another.
+pub mod Sharing

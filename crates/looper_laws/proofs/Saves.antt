@@ -1,0 +1,5 @@
+-- What a run saves, and what holds the lists that are saved.
+pub mod Entries
+pub mod Numbers
+pub mod Loops
+pub mod Pins

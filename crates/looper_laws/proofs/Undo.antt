@@ -1,0 +1,3 @@
+-- What undo and redo give back.
+pub mod Openings
+pub mod Layers

@@ -1,0 +1,5 @@
+pub mod Places
+pub mod Questions
+pub mod OtherLayers
+pub mod Undoing
+pub mod SingleRun

@@ -1,0 +1,58 @@
+//! What holds of the looper's rules: laws of the definitions in `looper_rules`, each the contract of a function with an
+//! empty body.
+//!
+//! - `cut_runs`: a run may be cut into two at any frame and at any entry.
+//! - `replies`: one frame comes out for each that goes in, and replies answer gets and saves.
+//! - `saved_lists`: a save has the lists at its entry's place, whatever follows.
+//! - `reached`: what always holds of every loop and looper that a run reaches, and what each step keeps of it.
+//! - `other_layers`: nothing changes a layer but the current one.
+//! - `undoing`: undo and redo give back what stood before.
+//! - `shared_room`: loops share the chunks.
+//! - `one_loop_law`: the single loop that `render` plays is a looper of one loop.
+//!
+//! `specs/` has the words that only these laws need. The proofs stand in `proofs/`, a folder a notion. The rules are
+//! docs/rules.md, and docs/proved.md says which folder carries which law.
+#![tactic(auto)]
+
+mod cut_runs;
+mod one_loop_law;
+mod other_layers;
+mod reached;
+mod replies;
+mod saved_lists;
+mod shared_room;
+mod undoing;
+
+pub use cut_runs::{
+    a_run_cut_at_a_frame_is_the_run, a_run_cut_at_an_entry_is_the_run,
+    a_run_cut_between_entries_is_the_run, a_run_goes_on_where_its_first_frames_left_off,
+    entries_to_come_change_nothing_before,
+};
+pub use one_loop_law::{
+    hits_that_record_once_are_a_journal, the_single_loop_is_a_looper_of_one_loop,
+};
+pub use other_layers::{
+    a_get_changes_nothing, a_refused_opening_is_counted_alone, only_the_current_layer_changes,
+};
+pub use reached::{
+    a_closing_keeps_the_loop, a_frame_keeps_the_loop, a_frame_keeps_the_looper,
+    a_kept_loop_is_a_loop, a_kept_looper_is_a_looper, a_run_begins_with_a_looper,
+    a_verb_keeps_the_loop, an_entry_keeps_the_looper, an_opening_keeps_the_loop,
+    each_state_of_a_run_is_a_looper,
+};
+pub use replies::{
+    a_frame_comes_out_for_each_that_goes_in, a_get_or_a_save_is_answered_once,
+    each_reply_answers_a_get_or_a_save_before_it, gets_are_answered_in_their_order,
+};
+pub use saved_lists::{
+    a_pin_holds_its_list_until_the_release, a_save_is_what_its_entry_met, no_save_changes_later,
+    saves_are_numbered_in_order, saves_are_those_at_their_entries,
+};
+pub use shared_room::{
+    a_reached_looper_shares_its_chunks, the_room_that_passes_on_is_what_the_others_leave,
+    what_is_done_to_a_loop_stays_in_reach,
+};
+pub use undoing::{
+    a_writing_verb_opens_a_loop, redo_gives_back_the_layer_that_undo_moved,
+    undo_gives_back_the_list_before_an_opening,
+};

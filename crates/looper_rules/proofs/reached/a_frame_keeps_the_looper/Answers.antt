@@ -1,5 +1,0 @@
-use Rattle.looper_rules.proofs.Kept.Runs.{looper_framed_keeps}
-use Rattle.looper_rules.proofs.reached.a_frame_keeps_the_looper.Goals as goal
-
-pub returns : goal.returns
-returns c frame now x l h = looper_framed_keeps now x h

@@ -1,5 +1,0 @@
-use Rattle.looper_rules.proofs.Kept.Entries.{applied_keeps}
-use Rattle.looper_rules.proofs.reached.an_entry_keeps_the_looper.Goals as goal
-
-pub returns : goal.returns
-returns c frame e l h = applied_keeps frame e h

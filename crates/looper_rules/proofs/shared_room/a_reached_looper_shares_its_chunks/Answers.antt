@@ -1,5 +1,0 @@
-use Rattle.looper_rules.proofs.SharingLemmas.{looper_shares}
-use Rattle.looper_rules.proofs.shared_room.a_reached_looper_shares_its_chunks.Goals as goal
-
-pub returns : goal.returns
-returns c = looper_shares
