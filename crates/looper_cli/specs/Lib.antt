@@ -3,6 +3,7 @@ pub mod Named
 pub mod Numerals
 pub mod FirstJournal
 pub mod FirstReading
+pub mod SingleLoops
 pub mod OneRun
 pub mod Statuses
 pub mod Console

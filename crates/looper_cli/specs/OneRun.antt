@@ -15,7 +15,7 @@ told frames = samples 1 16 frames
 abbrev pub part : List ℕ → ℕ → ℕ → List Sound
 part bytes done until = sounds (take (2 * until - 2 * done) (drop (2 * done) bytes))
 
--- what a strip and the samples become where the loop runs over all of them
+-- what a single loop and the samples become where the loop runs over all of them
 abbrev pub RunsOver : Option OneLoop → Option OneLoop → List ℕ → List ℕ → Type 0
 RunsOver None left before after = ⊥
 RunsOver (Some loop) left before after =
@@ -27,12 +27,12 @@ pub record LoopRunsPart (loop : OneLoop) (left : Option OneLoop) (before after :
   pub written : take (2 * until) after ≡ take (2 * done) before ++ told (heard_over loop (part before done until))
   pub kept : drop (2 * until) after ≡ drop (2 * until) before
 
--- what a strip and the samples become where the loop runs over a part of them: a spent strip stays so
+-- what a single loop and the samples become where the loop runs over a part of them: a spent loop stays so
 abbrev pub RunsPart : Option OneLoop → Option OneLoop → List ℕ → List ℕ → ℕ → ℕ → Type 0
 RunsPart None left before after done until = left ≡ None
 RunsPart (Some loop) left before after done until = LoopRunsPart loop left before after done until
 
--- the strip has come to this frame of the whole run, with these hits left
+-- the single loop has come to this frame of the whole run, with these hits left
 abbrev pub HasCome : List ℕ → Option OneLoop → ℕ → List ℕ → List ℕ → Type 0
 HasCome whole None done hits bytes = ⊥
 HasCome whole (Some loop) done hits bytes =

@@ -18,6 +18,7 @@ mod first_journal;
 mod numeral;
 mod one_run;
 mod render;
+mod single_loop;
 mod status;
 mod top;
 mod words;

@@ -6,7 +6,7 @@ ghost use Rattle.wav_pcm.specs.Mono16.{sounds};
 ghost use Rattle.looper_cli.specs.OneRun.{told, RunsOver, RunsPart, HasCome};
 ghost use Rattle.looper_cli.specs.FirstJournal.{NeverFallsFrom};
 
-use loop_strip::Strip;
+use crate::single_loop::SingleLoop;
 use sl_base::{Frame, Memory};
 use std::alloc::Global;
 use wav_pcm::{read_mono16_samples, write_mono16_samples};
@@ -36,26 +36,26 @@ fn period_end(done: usize, until: usize, period: usize) -> usize
     }
 }
 
-/// Runs the strip over the samples of one period, and writes what is heard over them.
+/// Runs the single loop over the samples of one period, and writes what is heard over them.
 fn run_period(
-    strip: &mut Strip,
+    single: &mut SingleLoop,
     samples: &mut [u8],
     input: &mut [Frame],
     heard: &mut [Frame],
 ) -> Result<(), Memory>
     requires room { length samples.old ≡ 2 * length input.old }
     requires same_length { length heard.old ≡ length input.old }
-    ensures ok { OnOk result (RunsOver strip.old strip.new samples.old samples.new) }
+    ensures ok { OnOk result (RunsOver single.old single.new samples.old samples.new) }
 {
     read_mono16_samples(samples, input);
-    strip.run(input, heard)?;
+    single.run(input, heard)?;
     write_mono16_samples(samples, heard);
     Ok(())
 }
 
-/// Runs the strip over the samples from frame `done` up to `until`, which lie within one period.
+/// Runs the single loop over the samples from frame `done` up to `until`, which lie within one period.
 fn run_part(
-    strip: &mut Strip,
+    single: &mut SingleLoop,
     samples: &mut [u8],
     input: &mut [Frame],
     heard: &mut [Frame],
@@ -66,20 +66,20 @@ fn run_part(
     requires within { 2 * until ≤ length samples.old }
     requires short { until ≤ done + length input.old }
     requires same_length { length heard.old ≡ length input.old }
-    ensures ok { OnOk result (RunsPart strip.old strip.new samples.old samples.new done until) }
+    ensures ok { OnOk result (RunsPart single.old single.new samples.old samples.new done until) }
 {
     let len = until - done;
     run_period(
-        strip,
+        single,
         &mut samples[2 * done..2 * until],
         &mut input[..len],
         &mut heard[..len],
     )
 }
 
-/// Runs the strip over the samples from frame `done` up to `until`, one period after another.
+/// Runs the single loop over the samples from frame `done` up to `until`, one period after another.
 fn run_periods(
-    strip: &mut Strip,
+    single: &mut SingleLoop,
     samples: &mut [u8],
     input: &mut [Frame],
     heard: &mut [Frame],
@@ -90,12 +90,12 @@ fn run_periods(
     requires within { 2 * until ≤ length samples.old }
     requires some { 1 ≤ length input.old }
     requires same_length { length heard.old ≡ length input.old }
-    ensures ok { OnOk result (RunsPart strip.old strip.new samples.old samples.new done until) }
+    ensures ok { OnOk result (RunsPart single.old single.new samples.old samples.new done until) }
 {
     let mut at = done;
     'periods: while at < until {
         let end = period_end(at, until, input.len());
-        run_part(strip, samples, input, heard, at, end)?;
+        run_part(single, samples, input, heard, at, end)?;
         at = end;
     }
     Ok(())
@@ -113,13 +113,13 @@ fn silent(alloc: Global, len: usize) -> Result<Vec<Frame>, Memory>
 
 /// Writes what is heard of the samples over them, with hits of record at these frames.
 fn run_over(
-    strip: &mut Strip,
+    single: &mut SingleLoop,
     samples: &mut [u8],
     hits: &[u64],
     input: &mut [Frame],
     heard: &mut [Frame],
 ) -> Result<(), Memory>
-    requires fresh { strip.old ≡ Some idle }
+    requires fresh { single.old ≡ Some idle }
     requires whole { length samples.old % 2 ≡ 0 }
     requires order { NeverFallsFrom 0 hits.now }
     requires some { 1 ≤ length input.old }
@@ -130,11 +130,11 @@ fn run_over(
     let mut done = 0;
     for hit in hits {
         let until = frames_before(*hit, len);
-        run_periods(strip, samples, input, heard, done, until)?;
-        strip.hit_record();
+        run_periods(single, samples, input, heard, done, until)?;
+        single.hit_record();
         done = until;
     }
-    run_periods(strip, samples, input, heard, done, len)
+    run_periods(single, samples, input, heard, done, len)
 }
 
 /// Writes what is heard of samples of 16 bits in one channel over them, with hits of record at these frames. Where
@@ -146,6 +146,6 @@ pub fn one_run(alloc: Global, samples: &mut [u8], hits: &[u64]) -> Result<(), Me
 {
     let mut input = silent(alloc, PERIOD)?;
     let mut heard = silent(alloc, PERIOD)?;
-    let mut strip = Strip::new(alloc);
-    run_over(&mut strip, samples, hits, &mut input, &mut heard)
+    let mut single = SingleLoop::new(alloc);
+    run_over(&mut single, samples, hits, &mut input, &mut heard)
 }

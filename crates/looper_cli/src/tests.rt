@@ -1,6 +1,8 @@
-//! Journals whose hits were found by hand.
+//! Journals whose hits were found by hand, and the single loop once.
 
 use crate::read_first_journal;
+use crate::single_loop::SingleLoop;
+use sl_base::{Frame, widen};
 
 /// Whether the text is the journal with hits at these frames.
 fn is_journal_of(text: &[u8], frames: &[u64]) -> bool {
@@ -91,4 +93,31 @@ fn other_texts_are_no_journals(rt: HostRuntime) {
         ).is_none(),
         "a third hit"
     );
+}
+
+/// A frame with this number on both sides.
+fn mono(sample: i16) -> Frame {
+    let side = widen(sample);
+    Frame {
+        left: side,
+        right: side,
+    }
+}
+
+#[test]
+fn the_single_loop_plays_what_it_recorded(rt: HostRuntime) {
+    let mut single = SingleLoop::new(rt.alloc());
+    let mut heard = [mono(9), mono(9), mono(9)];
+    single.hit_record();
+    assert!(rt;
+        single.run(&[mono(1), mono(2)], &mut heard[..2]).is_ok(),
+        "recording"
+    );
+    assert_eq!(rt; heard.as_slice(), [mono(0), mono(0), mono(9)].as_slice());
+    single.hit_record();
+    assert!(rt;
+        single.run(&[mono(0), mono(0), mono(0)], &mut heard).is_ok(),
+        "playing"
+    );
+    assert_eq!(rt; heard.as_slice(), [mono(1), mono(2), mono(1)].as_slice());
 }

@@ -1,6 +1,5 @@
 //! The public calls below a run, once each where they succeed.
 
-use loop_strip::Strip;
 use looper_cli::{Status, Words, words_of};
 use sl_base::{Frame, Frames, Name, clamp24, narrow, scale, widen};
 use std::test::Fail;
@@ -42,24 +41,6 @@ fn a_list_of_frames_has_what_was_pushed(rt: HostRuntime) -> Result<(), Fail> {
     let again = Frames::of(frames.into_vec());
     assert_eq!(rt; again.as_slice(), [mono(1), mono(0)].as_slice());
     Ok(())
-}
-
-#[test]
-fn a_strip_plays_what_it_recorded(rt: HostRuntime) {
-    let mut strip = Strip::new(rt.alloc());
-    let mut heard = [mono(9), mono(9), mono(9)];
-    strip.hit_record();
-    assert!(rt;
-        strip.run(&[mono(1), mono(2)], &mut heard[..2]).is_ok(),
-        "recording"
-    );
-    assert_eq!(rt; heard.as_slice(), [mono(0), mono(0), mono(9)].as_slice());
-    strip.hit_record();
-    assert!(rt;
-        strip.run(&[mono(0), mono(0), mono(0)], &mut heard).is_ok(),
-        "playing"
-    );
-    assert_eq!(rt; heard.as_slice(), [mono(1), mono(2), mono(1)].as_slice());
 }
 
 #[test]

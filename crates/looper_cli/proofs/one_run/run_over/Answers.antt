@@ -17,10 +17,10 @@ loop-hit-preserved c =
     in let first : length c.args.samples.now ≡ 2 * len = omega (arith, c.requires.whole)
     in let before : length c.loop-hit.samples ≡ 2 * len = c.loop-hit.auto.samples ∙ first
     in let after : length c.run_periods.new.samples ≡ 2 * len = c.run_periods.auto.samples ∙ before
-    in let turned = turn_runs whole c.loop-hit.samples c.run_periods.new.samples _ _ c.loop-hit.strip c.run_periods.new.strip len c.loop-hit.done c.frames_before-until.result
+    in let turned = turn_runs whole c.loop-hit.samples c.run_periods.new.samples _ _ c.loop-hit.single c.run_periods.new.single len c.loop-hit.done c.frames_before-until.result
     before after c.frames_before-until.ensures c.loop-hit.invariant.2
     (subst (λ hits. NeverFallsFrom c.loop-hit.done hits) next c.loop-hit.invariant.1)
-    (subst (λ hits. HasCome whole c.loop-hit.strip c.loop-hit.done hits c.loop-hit.samples) next c.loop-hit.invariant.0)
+    (subst (λ hits. HasCome whole c.loop-hit.single c.loop-hit.done hits c.loop-hit.samples) next c.loop-hit.invariant.0)
     c.in_ok-run_periods.ensures.ok
     in (subst (λ s. HasCome whole s c.frames_before-until.result (drop (c.loop-hit.hit-index + 1) c.args.hits.now) c.run_periods.new.samples) (sym c.hit_record.ensures) turned.0, turned.1, turned.2)
 
@@ -33,7 +33,7 @@ returns c =
     in let before : length c.loop-hit.samples ≡ 2 * len = c.loop-hit.auto.samples ∙ first
     in let after : length c.run_periods-2.new.samples ≡ 2 * len = c.run_periods-2.auto.samples ∙ before
     in on_ok_weaker c.run_periods-2.result
-    (last_part_runs whole c.loop-hit.samples c.run_periods-2.new.samples c.loop-hit.strip c.run_periods-2.new.strip len c.loop-hit.done
+    (last_part_runs whole c.loop-hit.samples c.run_periods-2.new.samples c.loop-hit.single c.run_periods-2.new.single len c.loop-hit.done
     before after c.loop-hit.invariant.2
-    (subst (λ hits. HasCome whole c.loop-hit.strip c.loop-hit.done hits c.loop-hit.samples) none c.loop-hit.invariant.0))
+    (subst (λ hits. HasCome whole c.loop-hit.single c.loop-hit.done hits c.loop-hit.samples) none c.loop-hit.invariant.0))
     c.run_periods-2.ensures.ok

@@ -8,6 +8,6 @@ use Rattle.looper_cli.proofs.one_run.run_over.Given as goal
 
 abbrev pub invariant-loop-hit : goal.invariant-loop-hit
 invariant-loop-hit l =
-    HasCome (told (one_run l.hits (sounds l.fn.samples))) l.strip l.done (drop l.hit-index l.hits) l.samples
+    HasCome (told (one_run l.hits (sounds l.fn.samples))) l.single l.done (drop l.hit-index l.hits) l.samples
     × NeverFallsFrom l.done (drop l.hit-index l.hits)
     × (l.done ≤ length l.fn.samples / 2)

@@ -12,6 +12,6 @@ returns c =
     in let size = c.run_period.auto.samples ∙ length-take-le (2 * c.args.until - 2 * c.args.done) (drop (2 * c.args.done) before) inside
     in record {
       ok = on_ok_weaker c.run_period.result
-          (slice_runs c.args.strip.now c.run_period.new.strip before _ c.run_period.new.samples c.args.done c.args.until c.requires.order c.requires.within size refl)
+          (slice_runs c.args.single.now c.run_period.new.single before _ c.run_period.new.samples c.args.done c.args.until c.requires.order c.requires.within size refl)
           c.run_period.ensures.ok;
     }

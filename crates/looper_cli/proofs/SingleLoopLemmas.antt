@@ -6,7 +6,7 @@ use Rattle.sl_base.specs.Sounds.{Sound, silence}
 use Rattle.looper_rules.specs.OneLoop.{OneLoop, off, recording, playing, next_pos, heard_over, after_over}
 use Rattle.looper_rules.specs.declared.one_loop.OneMode.TheVariants.{Off, Recording}
 use Rattle.looper_rules.specs.declared.one_loop.OneMode.{OneMode}
-use Rattle.loop_strip.specs.Strips.{Runs, PosFits}
+use Rattle.looper_cli.specs.SingleLoops.{Runs, PosFits}
 
 -- a frame that is there is read whatever stands for one that isn't
 pub read_in_range : (frames : List Sound) (at : ℕ) (x : Sound) → at < length frames → x ≡ slice_index_or frames at x → slice_index_or frames at silence ≡ x
@@ -73,25 +73,25 @@ pub recording_runs :
 recording_runs frames input told longer pos len at grown ends is =
     rw (at, ends, grown) (ap Some (sym (recording_after frames input)), is ∙ sym (recording_heard frames input))
 
--- the state that a strip's fields make
+-- the state that the fields of a single loop make
 abbrev pub state_of : OneMode → List Sound → ℕ → Bool → Option OneLoop
 state_of mode frames pos spent = if spent then None else Some (record { mode = mode; frames = frames; pos = pos })
 
--- a run of a strip that is off
-pub off_strip_runs :
+-- a run of a single loop that is off
+pub off_loop_runs :
     (mode : OneMode) (frames input told : List Sound) (pos : ℕ) (spent : Bool) (state : Option OneLoop) →
     mode ≡ Off → spent ≡ false → state_of mode frames pos spent ≡ state → told ≡ replicate (length input) silence → Runs state input state told
-off_strip_runs mode frames input told pos spent state is_off fresh seen is =
+off_loop_runs mode frames input told pos spent state is_off fresh seen is =
     let P : OneMode → Bool → Type 0 = λ m b. Runs (state_of m frames pos b) input (state_of m frames pos b) told
     in subst (λ s. Runs s input s told) seen (subst (λ m. P m spent) (sym is_off) (subst (λ b. P Off b) (sym fresh) (off_runs frames input told pos is)))
 
--- a run of a strip that records
-pub recording_strip_runs :
+-- a run of a single loop that records
+pub recording_loop_runs :
     (mode : OneMode) (frames input told longer : List Sound) (pos len : ℕ) (spent : Bool) (state : Option OneLoop) →
     mode ≡ Recording → spent ≡ false → state_of mode frames pos spent ≡ state → PosFits mode frames pos →
     longer ≡ frames ++ input → len ≡ length longer → told ≡ replicate (length input) silence →
     Runs state input (state_of mode longer len spent) told
-recording_strip_runs mode frames input told longer pos len spent state is_recording fresh seen fits grown ends is =
+recording_loop_runs mode frames input told longer pos len spent state is_recording fresh seen fits grown ends is =
     let at : pos ≡ length frames = subst (λ m. PosFits m frames pos) is_recording fits
     in let P : OneMode → Bool → Type 0 = λ m b. Runs (state_of m frames pos b) input (state_of m longer len b) told
     in subst (λ s. Runs s input (state_of mode longer len spent) told) seen

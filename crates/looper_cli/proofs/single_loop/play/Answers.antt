@@ -1,6 +1,6 @@
 use Rattle.std.proofs.Common.{◌<◌, length, arith}
-use Rattle.loop_strip.proofs.StripLemmas.{heard_turn, after_turn}
-use Rattle.loop_strip.proofs.strip.play.Goals as goal
+use Rattle.looper_cli.proofs.SingleLoopLemmas.{heard_turn, after_turn}
+use Rattle.looper_cli.proofs.single_loop.play.Goals as goal
 
 pub loop-i-preserved : goal.loop-i-preserved
 loop-i-preserved c =

@@ -1,9 +1,9 @@
-//! The strip of one loop.
+//! The single loop, run over many frames at a time. Its rules are "The single loop" in docs/rules.md.
 
 ghost use Rattle.std.specs.Prelude.{◌≡◌, ℕ, ◌<◌, ◌+◌, ◌++◌, length, Option, Some, None, OnOk, OnErr, IsErr, MatchOption, replicate};
 ghost use Rattle.std.specs.Option.{option_map};
 ghost use Rattle.sl_base.specs.Sounds.{silence};
-ghost use Rattle.loop_strip.specs.Strips.{Runs};
+ghost use Rattle.looper_cli.specs.SingleLoops.{Runs};
 ghost use Rattle.looper_rules.specs.OneLoop.{idle, hit, playing, next_pos, heard_over, after_over};
 
 use looper_rules::OneMode;
@@ -13,17 +13,17 @@ use std::marker::Model;
 
 /// One loop. It owns its frames.
 #[derive(Drop)]
-pub struct Strip {
+pub struct SingleLoop {
     mode: OneMode,
     frames: Vec<Frame>,
     pos: usize,
     spent: bool,
 }
 
-impl Model for Strip {
+impl Model for SingleLoop {
     ghost use Rattle.std.specs.Prelude.{Option, Some, None, if◌then◌else◌};
     ghost use Rattle.looper_rules.specs.OneLoop.{OneLoop};
-    ghost use Rattle.loop_strip.specs.Strips.{PosFits};
+    ghost use Rattle.looper_cli.specs.SingleLoops.{PosFits};
 
     ghost Value = { Option OneLoop };
 
@@ -75,12 +75,12 @@ fn take_in(frames: &mut Vec<Frame>, input: &[Frame]) -> Result<(), Memory>
     }
 }
 
-impl Strip {
-    /// A strip that is Off.
-    pub fn new(alloc: Global) -> Strip
+impl SingleLoop {
+    /// A loop that is Off.
+    pub fn new(alloc: Global) -> SingleLoop
         ensures { result ≡ Some idle }
     {
-        Strip {
+        SingleLoop {
             mode: OneMode::Off,
             frames: Vec::new(alloc),
             pos: 0,
@@ -108,7 +108,7 @@ impl Strip {
         self.pos = 0;
     }
 
-    /// Takes `input` in, and writes what is heard over `heard`, frame by frame. `Memory` spends the strip for good.
+    /// Takes `input` in, and writes what is heard over `heard`, frame by frame. `Memory` spends the loop for good.
     pub fn run(&mut self, input: &[Frame], heard: &mut [Frame]) -> Result<(), Memory>
         requires { length input.now ≡ length heard.old }
         ensures ok { OnOk result (Runs self.old input.now self.new heard.new) }
