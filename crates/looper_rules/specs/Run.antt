@@ -54,6 +54,16 @@ loaded_stack list cycle =
       run = None;
     }
 
+-- a stack with a layer of this list more, whose frames stand on the tape behind what it has
+abbrev pub loaded : {A : Type 0} → List A → ℕ → Stack A → Stack A
+loaded list cycle s =
+    let tape = s.tape + length list
+    in record s {
+      layers = loaded_layer list cycle tape ∷ s.layers;
+      tape = tape;
+      run = None;
+    }
+
 -- a loop that begins with this list
 abbrev pub first_loop : {A : Type 0} → List A → StripSettings → Loop A
 first_loop [] s = record { deck = new_deck Off; controls = controls_of s; refused = 0; stack = empty_stack }
