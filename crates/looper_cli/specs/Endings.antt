@@ -10,7 +10,7 @@
 use Rattle.std.specs.Prelude.{◌≡◌, ◌⊎◌, ℕ, Option, List, length}
 use Rattle.std.specs.Io.KnownBytes.{Appends}
 use Rattle.sl_base.specs.Sounds.{Sound}
-use Rattle.sl_ports.specs.Faults.{Rose}
+use Rattle.sl_base.specs.Counting.{Rose}
 use Rattle.sl_ports.specs.Files.{Files, put_told}
 use Rattle.sl_ports.specs.Texts.{AppendsPrefix, Tells}
 use Rattle.wav_pcm.specs.Mono16.{IsMono16}

@@ -1,7 +1,7 @@
 //! Reading the files that the words name.
 
 ghost use Rattle.std.specs.Prelude.{◌≡◌, IfOk};
-ghost use Rattle.sl_ports.specs.Faults.{Counts};
+ghost use Rattle.sl_base.specs.Counting.{Counts};
 ghost use Rattle.looper_cli.specs.Inputs.{IsInput, IsJournal, Says, AreHitsOf, is_failure};
 ghost use Rattle.looper_cli.specs.Contents.{SaysOfBytes, AreBytes, IsFile};
 

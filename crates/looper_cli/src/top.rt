@@ -3,7 +3,7 @@
 ghost use Rattle.std.specs.Prelude.{◌≡◌, ◌⊎◌, ◌↔◌, ℕ, List, Some, None, IfSome, map};
 ghost use Rattle.std.specs.Io.KnownBytes.{Appends};
 ghost use Rattle.std.specs.String.{string_bytes};
-ghost use Rattle.sl_ports.specs.Faults.{Rose};
+ghost use Rattle.sl_base.specs.Counting.{Rose};
 ghost use Rattle.sl_ports.specs.Texts.{Tells, AppendsPrefix};
 ghost use Rattle.looper_cli.specs.Console.{words_text, read_fault_text};
 ghost use Rattle.looper_cli.specs.Named.{names_of_words};

@@ -4,7 +4,7 @@
 -- An opening puts a new layer on the current one, and drops the redo layers, all of them.
 -- "Layers" and "History: undo and redo" in docs/rules.md.
 use Rattle.std.specs.Prelude.{◌≡◌, ◌⊎◌, ◌+◌, ◌≤◌, min, ⊤, List, [], ◌∷◌, ◌++◌, length}
-use Rattle.looper_rules.specs.Limits.{max_value}
+use Rattle.sl_base.specs.Limits.{max_value}
 use Rattle.looper_rules.specs.Layers.{Layer, without_current}
 use Rattle.looper_rules.specs.Stack.{Stack}
 use Rattle.looper_rules.specs.Loop.{Loop}

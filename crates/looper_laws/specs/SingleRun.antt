@@ -8,7 +8,8 @@ use Rattle.std.specs.Prelude.{◌≡◌, ◌≤◌, ℕ, max, List, [], ◌∷�
 use Rattle.sl_base.specs.Sounds.{Sound, IsFrame}
 use Rattle.sl_commands.specs.declared.Verb.TheVariants.{Rec}
 use Rattle.sl_commands.specs.declared.Entry.{Entry}
-use Rattle.sl_commands.specs.Settings.{max_length, default_settings}
+use Rattle.sl_commands.specs.Settings.{default_settings}
+use Rattle.sl_base.specs.Limits.{max_list_frames}
 use Rattle.sl_commands.specs.Entries.{FramesNeverFall}
 use Rattle.looper_rules.specs.Room.{chunks_of}
 use Rattle.looper_rules.specs.Looper.{Track}
@@ -28,7 +29,7 @@ pub record RecordsOnce (hits : List ℕ) : Type 0 where
 -- the chunks hold a whole input, and at least one is there
 pub record FitsInChunks (chunks : ℕ) (input : List Sound) : Type 0 where
   pub frames : All IsFrame input
-  pub count : length input ≤ max_length
+  pub count : length input ≤ max_list_frames
   pub room : max 1 (chunks_of (length input)) ≤ chunks
 
 -- the run of a new looper of one loop, at this rate and with so many chunks, under these hits

@@ -7,7 +7,7 @@ ghost use Rattle.sl_commands.specs.declared.Control.{Control};
 ghost use Rattle.sl_commands.specs.declared.Target.{Target};
 ghost use Rattle.sl_commands.specs.declared.Globals.{Globals};
 ghost use Rattle.sl_commands.specs.declared.Face.{Face};
-ghost use Rattle.looper_rules.specs.Limits.{chunk_frames};
+ghost use Rattle.sl_base.specs.Limits.{chunk_frames};
 ghost use Rattle.looper_rules.specs.LoopFrame.{frame_later};
 ghost use Rattle.looper_rules.specs.Room.{used, has_room};
 ghost use Rattle.looper_rules.specs.Loop.{Loop};

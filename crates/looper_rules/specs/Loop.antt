@@ -11,7 +11,7 @@ use Rattle.sl_commands.specs.declared.Mode.{Mode}
 use Rattle.sl_commands.specs.declared.Mode.TheVariants.{Off, Recording, Overdubbing, Multiplying, Inserting, Replacing, Substituting}
 use Rattle.sl_commands.specs.declared.Held.{Held}
 use Rattle.sl_commands.specs.declared.Face.{Face}
-use Rattle.looper_rules.specs.Limits.{max_value}
+use Rattle.sl_base.specs.Limits.{max_value}
 use Rattle.looper_rules.specs.Layers.{current_length, current_base_length, current_cycle}
 use Rattle.looper_rules.specs.Stack.{Stack}
 

@@ -10,7 +10,7 @@
 use Rattle.std.specs.Prelude.{ℕ, ◌+◌, ◌-◌, max, Bool, true, false, List, [], ◌∷◌, None, length, nat_lt, nat_le, if◌then◌else◌}
 use Rattle.sl_commands.specs.declared.Started.{Started}
 use Rattle.sl_commands.specs.declared.Started.TheVariants.{Ok, Layers, Seams, Room}
-use Rattle.looper_rules.specs.Limits.{max_layers, max_seams}
+use Rattle.sl_base.specs.Limits.{max_layers, max_seams}
 use Rattle.looper_rules.specs.Layers.{Layer, contents, old_cells, total_seams, current_end, current_seams}
 use Rattle.looper_rules.specs.Stack.{Stack, pinned_tape}
 use Rattle.looper_rules.specs.Room.{has_room}

@@ -3,7 +3,7 @@
 -- of its own tape and the free ones. It has room where its tape isn't full to the end of a chunk, or a chunk is free.
 -- "Room" in docs/rules.md.
 use Rattle.std.specs.Prelude.{ℕ, ◌+◌, ◌*◌, ◌/◌, ◌%◌, Bool, ◌||◌, not, List, nat_lt, ◌==◌, sum_by}
-use Rattle.looper_rules.specs.Limits.{chunk_frames}
+use Rattle.sl_base.specs.Limits.{chunk_frames}
 
 -- the chunks that a tape of this length takes
 abbrev pub chunks_of : ℕ → ℕ

@@ -9,7 +9,7 @@ use Rattle.std.specs.List.{AllByRecursion}
 use Rattle.sl_base.specs.Sounds.{Sound}
 use Rattle.sl_commands.specs.declared.Target.{Target}
 use Rattle.sl_commands.specs.declared.Target.TheVariants.{One, All, Selected}
-use Rattle.looper_rules.specs.Limits.{chunk_frames}
+use Rattle.sl_base.specs.Limits.{chunk_frames}
 use Rattle.looper_rules.specs.Layers.{Layer}
 use Rattle.looper_rules.specs.Stack.{Stack, pinned_tape}
 use Rattle.looper_rules.specs.Room.{chunks_of, used}

@@ -20,8 +20,8 @@ use Rattle.sl_commands.specs.declared.Mode.TheVariants.{Off, WaitStart, Recordin
 use Rattle.sl_commands.specs.declared.How.{How}
 use Rattle.sl_commands.specs.declared.How.TheVariants.{Forward, Backward, Insert, Append}
 use Rattle.sl_commands.specs.declared.Held.{Held}
-use Rattle.sl_commands.specs.Settings.{max_length, are_globals, is_loop_count, is_rate}
-use Rattle.looper_rules.specs.Limits.{max_layers, max_seams, max_value}
+use Rattle.sl_commands.specs.Settings.{are_globals, is_loop_count, is_rate}
+use Rattle.sl_base.specs.Limits.{max_layers, max_seams, max_value, max_list_frames}
 use Rattle.looper_rules.specs.Layers.{Layer, unmarked, total_seams, current_length, current_end}
 use Rattle.looper_rules.specs.Stack.{Stack, LastWrite, pinned_tape}
 use Rattle.looper_rules.specs.Room.{used}
@@ -118,7 +118,7 @@ IsRun _ run pos backward = run ≡ None
 
 -- each of these layers has at most 16777216 frames, and its end is at most the tape length
 abbrev pub AreWithin : {A : Type 0} → ℕ → List (Layer A) → Type 0
-AreWithin tape layers = AllByRecursion (λ l. (length l.cells ≤ max_length) × (l.end ≤ tape)) layers
+AreWithin tape layers = AllByRecursion (λ l. (length l.cells ≤ max_list_frames) × (l.end ≤ tape)) layers
 
 -- no layer ends before the one below it
 abbrev pub AreOrdered : {A : Type 0} → List (Layer A) → Type 0

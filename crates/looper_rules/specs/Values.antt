@@ -17,7 +17,7 @@ use Rattle.sl_commands.specs.declared.Control.TheVariants.{Feedback, Wet, Round,
 use Rattle.sl_commands.specs.declared.Face.{Face}
 use Rattle.sl_commands.specs.declared.Globals.{Globals}
 use Rattle.sl_commands.specs.Controls.{is_in_range}
-use Rattle.looper_rules.specs.Limits.{max_value}
+use Rattle.sl_base.specs.Limits.{max_value}
 use Rattle.looper_rules.specs.Room.{free_time}
 use Rattle.looper_rules.specs.Loop.{Controls}
 

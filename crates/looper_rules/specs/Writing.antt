@@ -9,8 +9,7 @@
 use Rattle.std.specs.Prelude.{ℕ, ◌+◌, ◌-◌, Bool, true, false, ◌&&◌, ◌||◌, List, [], ◌∷◌, ◌++◌, Some, None, is_some, slice_get, slice_set, insert, nat_lt, nat_le, if◌then◌else◌}
 use Rattle.sl_commands.specs.declared.How.{How}
 use Rattle.sl_commands.specs.declared.How.TheVariants.{Forward, Backward, Insert, Append}
-use Rattle.sl_commands.specs.Settings.{max_length}
-use Rattle.looper_rules.specs.Limits.{max_seams}
+use Rattle.sl_base.specs.Limits.{max_seams, max_list_frames}
 use Rattle.looper_rules.specs.Layers.{Cell, Layer, fresh_cell, old_cells, is_fresh, total_seams, with_current, current_cells, current_length, current_base_length, current_base_seams}
 use Rattle.looper_rules.specs.Stack.{Stack}
 use Rattle.looper_rules.specs.Room.{has_room}
@@ -31,7 +30,7 @@ abbrev pub new_cell_fits : {A : Type 0} → ℕ → How → Stack A → Bool
 new_cell_fits reach how s =
     has_room reach s.tape
     && (is_some s.run || nat_le (total_seams s.layers) (max_seams - 2))
-    && (overwrites how || nat_lt (current_length s.layers) max_length)
+    && (overwrites how || nat_lt (current_length s.layers) max_list_frames)
 
 -- whether a write fits
 abbrev pub write_fits : {A : Type 0} → ℕ → How → ℕ → Stack A → Bool
@@ -72,7 +71,7 @@ written how place a s = if meets_fresh how place s then rewritten how place a s 
 -- whether the base fits once more
 abbrev pub extension_fits : {A : Type 0} → Stack A → Bool
 extension_fits s =
-    nat_le (current_length s.layers + current_base_length s.layers) max_length
+    nat_le (current_length s.layers + current_base_length s.layers) max_list_frames
     && nat_le (total_seams s.layers + current_base_seams s.layers) max_seams
 
 -- the layer with its base once more

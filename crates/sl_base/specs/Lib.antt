@@ -1,3 +1,5 @@
 pub mod Arithmetic
 pub mod Sounds
 pub mod Names
+pub mod Limits
+pub mod Counting

@@ -3,12 +3,9 @@
 ghost use Rattle.std.specs.Prelude.{◌≡◌, ℕ, [], ◌∷◌, ◌++◌, length, OnOk, OnErr};
 
 use crate::frame::Frame;
+use crate::memory::Memory;
 use std::alloc::Global;
 use std::marker::Model;
-
-/// The answer for want of memory.
-#[derive(Clone, Copy, Debug, PartialEq, Eq)]
-pub struct Memory;
 
 /// A list of frames, oldest first. It owns them.
 #[derive(Drop)]
@@ -42,7 +39,7 @@ impl Frames {
         Frames { frames }
     }
 
-    /// Puts one frame at the end.
+    /// Puts one frame at the end. After `Memory` the list is as before.
     pub fn push(&mut self, frame: Frame) -> Result<(), Memory>
         ensures ok { OnOk result (self.new ≡ self.old ++ frame ∷ []) }
         ensures unchanged { OnErr result (self.new ≡ self.old) }
@@ -53,6 +50,7 @@ impl Frames {
         }
     }
 
+    /// The frames, oldest first.
     pub fn as_slice(&self) -> &[Frame]
         ensures { result.now ≡ self.now }
     {
@@ -66,6 +64,7 @@ impl Frames {
         self.frames.len()
     }
 
+    /// The frames in the vector that holds them. No memory is taken.
     pub fn into_vec(self) -> Vec<Frame>
         ensures { result.items ≡ self }
     {

@@ -10,7 +10,8 @@ use Rattle.sl_base.specs.Sounds.{Sound}
 use Rattle.sl_commands.specs.declared.command.Target.{Target}
 use Rattle.sl_commands.specs.declared.block.Block.{Block}
 use Rattle.sl_commands.specs.declared.block.Block.TheVariants.{Head, Part, End}
-use Rattle.sl_commands.specs.Settings.{LooperSettings, max_length}
+use Rattle.sl_commands.specs.Settings.{LooperSettings}
+use Rattle.sl_base.specs.Limits.{max_list_frames}
 use Rattle.sl_commands.specs.Blocks.{parts_behind, parts_of, parts_of_lists, first_index, blocks_of, Begun, Place, has_list, may_be_part, place_after, place_behind, first_place, place_of, save_of, fits_name, may_follow, may_all_follow, IsSave}
 
 -- both halves of a test that passed
@@ -148,16 +149,16 @@ module _ (save : ℕ) (target : Target) (loops : ℕ) where
   -- the parts of lists come, the first of the index given
   lists_come :
       (lists : List (List Sound)) (last frames index : ℕ) → ((k : ℕ) → k < length lists → has_list target loops (index + k) ≡ true) → IsNext last frames index 0
-      → list_all (λ (list : List Sound). nat_le (length list) max_length) lists ≡ true
+      → list_all (λ (list : List Sound). nat_le (length list) max_list_frames) lists ≡ true
       → HasCome (index + length lists) (place_behind (within save target loops last frames) (parts_of_lists save index lists))
   lists_come [] last frames index each next short =
       let beyond = not_beyond last frames index 0 next in
       record { last = last; frames = frames; is = refl; before = omega (arith, beyond) }
   lists_come (list ∷ lists) last frames index each next short =
-      let halves = both (nat_le (length list) max_length) (list_all (λ (l : List Sound). nat_le (length l) max_length) lists) short in
+      let halves = both (nat_le (length list) max_list_frames) (list_all (λ (l : List Sound). nat_le (length l) max_list_frames) lists) short in
       let here : index + 0 ≡ index = omega arith in
       let has : has_list target loops index ≡ true = subst (λ (i : ℕ). has_list target loops i ≡ true) here (each 0 (omega arith)) in
-      let fits : 0 + (0 + length list) ≤ 16777216 = omega (arith, leb-true (length list) max_length halves.0) in
+      let fits : 0 + (0 + length list) ≤ 16777216 = omega (arith, leb-true (length list) max_list_frames halves.0) in
       let first = parts_come [] list last frames index 0 has next refl (omega arith) fits in
       let later : (k : ℕ) → k < length lists → has_list target loops (index + 1 + k) ≡ true =
       λ k below. (let shifted : index + suc k ≡ index + 1 + k = omega arith in subst (λ (i : ℕ). has_list target loops i ≡ true) shifted (each (suc k) (omega (arith, below))))

@@ -13,7 +13,8 @@ use Rattle.sl_commands.specs.declared.command.Target.{Target}
 use Rattle.sl_commands.specs.declared.command.Target.TheVariants.{One, All, Selected}
 use Rattle.sl_commands.specs.declared.block.Block.{Block}
 use Rattle.sl_commands.specs.declared.block.Block.TheVariants.{Head, Part, End}
-use Rattle.sl_commands.specs.Settings.{LooperSettings, max_length}
+use Rattle.sl_commands.specs.Settings.{LooperSettings}
+use Rattle.sl_base.specs.Limits.{max_list_frames, max_session_name}
 
 -- the frames of a part that isn't a list's last
 abbrev pub part_length : ℕ
@@ -76,7 +77,7 @@ may_be_part b index frames =
     has_list b.target b.loops index
     && nat_le 1 frames
     && nat_le frames part_length
-    && (nat_lt b.index index || index == b.index && b.frames % part_length == 0 && nat_le (b.frames + frames) max_length)
+    && (nat_lt b.index index || index == b.index && b.frames % part_length == 0 && nat_le (b.frames + frames) max_list_frames)
 
 -- with that part
 abbrev pub with_part : Begun → ℕ → ℕ → Begun
@@ -115,7 +116,7 @@ save_of (End save) = save
 
 -- a save with this target may have this name
 abbrev pub fits_target : Target → List ℕ → Bool
-fits_target All name = nat_le (length name) 48
+fits_target All name = nat_le (length name) max_session_name
 fits_target _ name = true
 
 -- the head of a session's save has a session's name
@@ -137,4 +138,4 @@ pub record IsSave (target : Target) (name : List ℕ) (loops : ℕ) (lists : Lis
   pub kind : is_save_target target ≡ true
   pub named : fits_target target name ≡ true
   pub each : (k : ℕ) → k < length lists → has_list target loops (first_index target + k) ≡ true
-  pub short : list_all (λ frames. nat_le (length frames) max_length) lists ≡ true
+  pub short : list_all (λ frames. nat_le (length frames) max_list_frames) lists ≡ true

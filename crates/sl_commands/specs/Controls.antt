@@ -6,6 +6,7 @@
 -- "Controls" in docs/rules.md.
 use Rattle.std.specs.Str.{bytes_eq}
 use Rattle.std.specs.Prelude.{ℕ, ℤ, pos, negsuc, Bool, true, false, ◌&&◌, ◌==◌, nat_le, nat_lt, List, [], ◌∷◌, codes}
+use Rattle.sl_base.specs.Limits.{max_list_frames}
 use Rattle.sl_commands.specs.declared.control.Control.{Control}
 use Rattle.sl_commands.specs.declared.control.Control.TheVariants.{Feedback, Wet, Round, Quantize, RecThresh, State, LoopLen, LoopPos, CycleLen, Waiting, Layers, RedoLayers, Refused, Reversed, FreeTime, Dry, SyncSource, SelectedLoopNum, FadeStep, LongPress, Pulse}
 use Rattle.sl_commands.specs.declared.control.Range.{Range}
@@ -46,8 +47,8 @@ control_row Dry = looper_line (codes "dry") (Between 0 1000 0)
 control_row SyncSource = looper_line (codes "sync_source") Source
 control_row SelectedLoopNum = looper_line (codes "selected_loop_num") LoopIndex
 control_row FadeStep = looper_line (codes "fade_step") (Between 1 1000 20)
-control_row LongPress = looper_line (codes "long_press") (Between 0 16777216 24000)
-control_row Pulse = looper_line (codes "pulse") (Between 1 16777216 24000)
+control_row LongPress = looper_line (codes "long_press") (Between 0 max_list_frames 24000)
+control_row Pulse = looper_line (codes "pulse") (Between 1 max_list_frames 24000)
 
 -- the name of a control, in messages and texts
 abbrev pub control_name : Control → List ℕ

@@ -5,3 +5,4 @@ pub mod Entries
 pub mod Settings
 pub mod Blocks
 pub mod TextFaults
+pub mod Replies

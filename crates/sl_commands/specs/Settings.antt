@@ -5,6 +5,7 @@
 -- "Settings" in docs/rules.md.
 use Rattle.std.specs.Prelude.{ℕ, zero, suc, pos, Bool, ◌&&◌, ◌==◌, nat_le, List, length, replicate}
 use Rattle.std.specs.List.{list_all}
+use Rattle.sl_base.specs.Limits.{max_list_frames, max_rate, max_loops}
 use Rattle.sl_commands.specs.declared.control.Control.TheVariants.{Feedback, Wet, Round, Quantize, RecThresh, Dry, SyncSource, SelectedLoopNum, FadeStep, LongPress, Pulse}
 use Rattle.sl_commands.specs.declared.settings.Globals.{Globals}
 use Rattle.sl_commands.specs.declared.settings.StripSettings.{StripSettings}
@@ -15,10 +16,6 @@ pub record LooperSettings : Type 0 where
   pub rate : ℕ
   pub globals : Globals
   pub strips : List StripSettings
-
--- the greatest length of a list, in frames
-abbrev pub max_length : ℕ
-max_length = 16777216
 
 -- the looper's own values lie in their ranges, for so many loops
 abbrev pub are_globals : ℕ → Globals → Bool
@@ -38,7 +35,7 @@ is_cycle_of (suc n) cycle = nat_le 1 cycle && nat_le cycle (suc n)
 -- a strip's values lie in their ranges
 abbrev pub is_strip : StripSettings → Bool
 is_strip s =
-    nat_le s.length max_length
+    nat_le s.length max_list_frames
     && is_cycle_of s.length s.cycle
     && is_in_range Feedback (pos s.feedback) 0
     && is_in_range Wet (pos s.wet) 0
@@ -52,11 +49,11 @@ are_strips ss = list_all is_strip ss
 
 -- the rate is one of audio files and sessions
 abbrev pub is_rate : ℕ → Bool
-is_rate rate = nat_le 1 rate && nat_le rate 768000
+is_rate rate = nat_le 1 rate && nat_le rate max_rate
 
 -- so many loops there may be
 abbrev pub is_loop_count : ℕ → Bool
-is_loop_count loops = nat_le 1 loops && nat_le loops 16
+is_loop_count loops = nat_le 1 loops && nat_le loops max_loops
 
 -- all values lie in their ranges
 abbrev pub are_settings : LooperSettings → Bool

@@ -44,6 +44,7 @@ impl PartFrames {
         self.frames.push(frame);
     }
 
+    /// The frames, in the order of the list.
     pub fn as_slice(&self) -> &[Frame]
         ensures { result.now ≡ self.now }
     {

@@ -2,11 +2,11 @@
 
 ghost use Rattle.std.specs.Prelude.{◌≡◌};
 ghost use Rattle.sl_base.specs.Names.{is_name};
-ghost use Rattle.sl_commands.specs.Commands.{is_target, is_single_target, is_release_target, is_outcome, is_session_name, is_allowed};
+ghost use Rattle.sl_commands.specs.Commands.{target_number, numbered_target, is_target, is_single_target, is_release_target, is_outcome, is_session_name, is_allowed};
 
 use crate::control::{Control, in_range};
 use crate::verb::Verb;
-use sl_base::Name;
+use sl_base::{MAX_SESSION_NAME, Name};
 
 /// The loops that a command is for: the one of this index, all, or the selected one.
 #[derive(Clone, Copy, PartialEq, Eq)]
@@ -17,6 +17,32 @@ pub enum Target {
 }
 
 impl Target {
+    /// The number in messages and texts: the loop's index, -1 for all loops, -3 for the selected one.
+    pub fn number(self) -> i32
+        ensures { result ≡ target_number self }
+    {
+        match self {
+            Target::One(index) => index as i32,
+            Target::All => -1,
+            Target::Selected => -3,
+        }
+    }
+
+    /// The target with this number, or None for another number than -3, -1, and 0 to 255.
+    pub fn numbered(number: i64) -> Option<Target>
+        ensures { result ≡ numbered_target number }
+    {
+        if 0 <= number && number <= 255 {
+            Some(Target::One(number as u8))
+        } else if number == -1 {
+            Some(Target::All)
+        } else if number == -3 {
+            Some(Target::Selected)
+        } else {
+            None
+        }
+    }
+
     /// It names no loop that isn't there.
     pub fn is_allowed(self, loops: u8) -> bool
         ensures { result ≡ is_target loops self }
@@ -51,7 +77,7 @@ impl Target {
 }
 
 /// One command. A `Set` and a `Get` are of a loop's control, a `SetGlobal` and a `GetGlobal` of the looper's.
-#[derive(Drop)]
+#[derive(Drop, PartialEq, Eq)]
 pub enum Command {
     Down(Target, Verb),
     Up(Target, Verb),
@@ -78,7 +104,7 @@ pub fn is_outcome(outcome: u8) -> bool
 pub fn is_session_name(name: &Name) -> bool
     ensures { result ≡ is_session_name name.now }
 {
-    name.as_bytes().len() <= 48
+    name.as_bytes().len() <= MAX_SESSION_NAME
 }
 
 /// Each name is one.

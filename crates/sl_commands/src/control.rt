@@ -5,6 +5,8 @@ ghost use Rattle.std.specs.List.{find};
 ghost use Rattle.sl_commands.specs.declared.control.Control.{Control};
 ghost use Rattle.sl_commands.specs.Controls.{control_row, control_name, has_control_name, controls, is_of_loop, can_be_set, is_within, is_in_range, first_of, default_of};
 
+use sl_base::MAX_LIST_FRAMES;
+
 /// What is set or read: of a loop from `Feedback` to `FreeTime`, of the looper from `Dry` on.
 #[derive(Clone, Copy, PartialEq, Eq)]
 pub enum Control {
@@ -128,8 +130,8 @@ impl Control {
             Control::SyncSource => Range::Source,
             Control::SelectedLoopNum => Range::LoopIndex,
             Control::FadeStep => Range::Between(1, 1000, 20),
-            Control::LongPress => Range::Between(0, 16777216, 24000),
-            Control::Pulse => Range::Between(1, 16777216, 24000),
+            Control::LongPress => Range::Between(0, MAX_LIST_FRAMES, 24000),
+            Control::Pulse => Range::Between(1, MAX_LIST_FRAMES, 24000),
             _ => Range::ReadOnly,
         }
     }

@@ -16,7 +16,7 @@ pub const MIDI: u8 = 1;
 pub const SAVER: u8 = 2;
 
 /// A command with the frame at which it applies, who sent it, and its number among this sender's.
-#[derive(Drop)]
+#[derive(Drop, PartialEq, Eq)]
 pub struct Entry {
     pub frame: u64,
     pub sender: u8,
@@ -87,7 +87,7 @@ impl Entries {
         Entries { entries }
     }
 
-    /// Puts one entry at the end.
+    /// Puts one entry at the end. After `Memory` the list is as before.
     pub fn push(&mut self, entry: Entry) -> Result<(), Memory>
         ensures ok { OnOk result (self.new ≡ self.old ++ entry ∷ []) }
         ensures unchanged { OnErr result (self.new ≡ self.old) }
@@ -98,6 +98,7 @@ impl Entries {
         }
     }
 
+    /// The entries, in the order in which they apply.
     pub fn as_slice(&self) -> &[Entry]
         ensures { result.now ≡ self.now }
     {
@@ -111,6 +112,7 @@ impl Entries {
         self.entries.len()
     }
 
+    /// The entries in the vector that holds them. No memory is taken.
     pub fn into_vec(self) -> Vec<Entry>
         ensures { result.items ≡ self }
     {

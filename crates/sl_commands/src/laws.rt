@@ -1,13 +1,14 @@
 //! What holds of the definitions: each function's clause is a law, and its body is empty.
 
-ghost use Rattle.std.specs.Prelude.{◌≡◌, ℕ, ◌<◌, ◌&&◌, ◌+◌, pos, [], ◌∷◌, length, ◌++◌, IsTrue, slice_get};
+ghost use Rattle.std.specs.Prelude.{◌≡◌, ℕ, ◌<◌, ◌&&◌, ◌+◌, pos, [], ◌∷◌, length, ◌++◌, ◌↔◌, IsTrue, slice_get};
 ghost use Rattle.sl_commands.specs.Verbs.{verb_name, verb_number, verbs};
+ghost use Rattle.sl_commands.specs.Commands.{target_number, numbered_target};
 ghost use Rattle.sl_commands.specs.Controls.{control_name, is_in_range, can_be_set, default_of};
 ghost use Rattle.sl_commands.specs.Blocks.{Begun, blocks_of, place_of, save_of, may_follow, may_all_follow, IsSave};
 ghost use Rattle.sl_commands.specs.Entries.{are_stamped, may_be_next, IsStamped};
 
 use crate::block::Block;
-use crate::command::Target;
+use crate::command::{Command, Target};
 use crate::control::Control;
 use crate::entry::Entry;
 use crate::settings::{Initial, Settings};
@@ -38,6 +39,68 @@ pub fn only_what_can_be_set_has_a_range(control: Control, value: i32, loops: u8)
 pub fn controls_begin_in_their_ranges(control: Control, loops: u8)
     requires { 0 < loops }
     ensures { IsTrue (can_be_set control) → IsTrue (is_in_range control (pos (default_of control)) loops) }
+{}
+
+/// Verbs are equal where they are the same.
+pub fn equal_verbs_are_the_same(verb: Verb, other: Verb)
+    ensures { IsTrue (⟦<Verb as PartialEq>⟧.eq verb other) ↔ (verb ≡ other) }
+{}
+
+/// Controls are equal where they are the same.
+pub fn equal_controls_are_the_same(control: Control, other: Control)
+    ensures { IsTrue (⟦<Control as PartialEq>⟧.eq control other) ↔ (control ≡ other) }
+{}
+
+/// Commands are equal where contracts see the same, and only there.
+pub fn equal_commands_are_the_same(command: &Command, other: &Command)
+    ensures { IsTrue (⟦<Command as PartialEq>⟧.eq command.now other.now) ↔ (command.now ≡ other.now) }
+{
+    // The cases are told apart for the proof alone.
+    match command {
+        Command::Down(_, verb) => {
+            if let Command::Down(_, other_verb) = other {
+                equal_verbs_are_the_same(*verb, *other_verb);
+            }
+        }
+        Command::Up(_, verb) => {
+            if let Command::Up(_, other_verb) = other {
+                equal_verbs_are_the_same(*verb, *other_verb);
+            }
+        }
+        Command::Hit(_, verb) => {
+            if let Command::Hit(_, other_verb) = other {
+                equal_verbs_are_the_same(*verb, *other_verb);
+            }
+        }
+        Command::Set(_, control, _) => {
+            if let Command::Set(_, other_control, _) = other {
+                equal_controls_are_the_same(*control, *other_control);
+            }
+        }
+        Command::Get(_, control) => {
+            if let Command::Get(_, other_control) = other {
+                equal_controls_are_the_same(*control, *other_control);
+            }
+        }
+        Command::SetGlobal(_, _) => {}
+        Command::GetGlobal(_) => {}
+        Command::SaveLoop(_, _) => {}
+        Command::SaveSession(_) => {}
+        Command::Release(_, _) => {}
+        Command::Quit => {}
+    }
+}
+
+/// Entries are equal where contracts see the same, and only there.
+pub fn equal_entries_are_the_same(entry: &Entry, other: &Entry)
+    ensures { IsTrue (⟦<Entry as PartialEq>⟧.eq entry.now other.now) ↔ (entry.now ≡ other.now) }
+{
+    equal_commands_are_the_same(&entry.command, &other.command);
+}
+
+/// The target of a number comes back from it.
+pub fn targets_come_back_from_their_numbers(target: Target)
+    ensures { numbered_target (target_number target) ≡ Some target }
 {}
 
 /// Entries are stamped with one more where they are without it and it may be next.

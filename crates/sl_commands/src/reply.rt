@@ -1,5 +1,8 @@
 //! Answers to gets and saves.
 
+ghost use Rattle.std.specs.Prelude.{◌≡◌};
+ghost use Rattle.sl_commands.specs.Replies.{what_name};
+
 use crate::control::Control;
 
 /// What a reply tells: the value of a control, or how the save of a loop or of a session ended.
@@ -8,6 +11,19 @@ pub enum What {
     Value(Control),
     Save,
     Session,
+}
+
+impl What {
+    /// The name in messages and texts: the control's, `save_loop` or `save_session`.
+    pub fn name(self) -> &'static str
+        ensures { result.now ≡ what_name self }
+    {
+        match self {
+            What::Value(control) => control.name(),
+            What::Save => "save_loop",
+            What::Session => "save_session",
+        }
+    }
 }
 
 /// The answer to a get or a save, with the sender and the number of what it answers.

@@ -6,7 +6,7 @@ ghost use Rattle.arrayvec.specs.ArrayVec.{array_vec_len};
 
 use crate::control::{Control, is_in_range};
 use arrayvec::ArrayVec;
-use sl_base::{Frames, Memory};
+use sl_base::{Frames, MAX_LIST_FRAMES, MAX_LOOPS, MAX_RATE, Memory};
 use std::alloc::Global;
 use std::marker::Model;
 
@@ -86,7 +86,7 @@ fn is_cycle_of(length: u32, cycle: u32) -> bool
 fn is_strip(strip: &StripSettings) -> bool
     ensures { result ≡ is_strip strip.now }
 {
-    strip.length <= 16777216
+    strip.length <= MAX_LIST_FRAMES
         && is_cycle_of(strip.length, strip.cycle)
         && is_in_range(Control::Feedback, strip.feedback as i64, 0)
         && is_in_range(Control::Wet, strip.wet as i64, 0)
@@ -142,6 +142,17 @@ impl Strips {
         }
     }
 
+    /// The same settings once more.
+    pub fn duplicate(&self) -> Strips
+        ensures { result ≡ self.now }
+    {
+        let mut copy = Strips::new();
+        for index in 0..self.len() {
+            copy.push(self.as_slice()[index]);
+        }
+        copy
+    }
+
     /// Puts the settings of one more loop at the end.
     pub fn push(&mut self, strip: StripSettings)
         requires { length self.old < 16 }
@@ -150,6 +161,7 @@ impl Strips {
         self.strips.push(strip);
     }
 
+    /// The settings of the loops, by index.
     pub fn as_slice(&self) -> &[StripSettings]
         ensures value { result.now ≡ self.now }
         ensures within { length self.now ≤ 16 }
@@ -191,9 +203,9 @@ fn are_settings(rate: u32, globals: &Globals, strips: &Strips) -> bool
 {
     let loops = strips.len();
     1 <= rate
-        && rate <= 768000
+        && rate <= MAX_RATE
         && 1 <= loops
-        && loops <= 16
+        && loops <= MAX_LOOPS as usize
         && are_globals(loops as u8, globals)
         && are_strips(strips.as_slice())
 }
@@ -234,6 +246,18 @@ impl Settings {
         }
     }
 
+    /// The same settings once more.
+    pub fn duplicate(&self) -> Settings
+        ensures { result ≡ self.now }
+    {
+        Settings {
+            rate: self.rate,
+            loops: self.loops,
+            globals: self.globals,
+            strips: self.strips.duplicate(),
+        }
+    }
+
     /// How many loops there are.
     pub fn loop_count(&self) -> u8
         ensures value { result ≡ length self.now.strips }
@@ -270,7 +294,7 @@ impl Initial {
         }
     }
 
-    /// Puts the list of one more loop at the end.
+    /// Puts the list of one more loop at the end. After `Memory` the lists are as before.
     pub fn push(&mut self, list: Frames) -> Result<(), Memory>
         requires { length self.old < 16 }
         ensures ok { OnOk result (self.new ≡ self.old ++ list ∷ []) }
@@ -282,6 +306,7 @@ impl Initial {
         }
     }
 
+    /// The lists, by the index of their loops.
     pub fn as_slice(&self) -> &[Frames]
         ensures value { result.now ≡ self.now }
         ensures within { length self.now ≤ 16 }

@@ -2,7 +2,7 @@
 -- A call that fails raises the count of faults, whether its number is listed or memory is refused to a sink.
 use Rattle.std.specs.Prelude.{ℕ, Bool, List, ◌==◌, if◌then◌else◌}
 use Rattle.std.specs.List.{list_any}
-use Rattle.sl_ports.specs.Faults.{raised}
+use Rattle.sl_base.specs.Counting.{raised}
 
 -- the numbers of the calls that are to fail, how many were made and how many failed
 pub record Tally : Type 0 where

@@ -3,7 +3,7 @@
 -- What a sink holds may be untold: then nothing is said of it.
 use Rattle.std.specs.Prelude.{◌≡◌, ◌⊎◌, ℕ, Bool, true, false, List, Option, ◌++◌}
 use Rattle.std.specs.Io.KnownBytes.{Appends}
-use Rattle.sl_ports.specs.Faults.{Rose}
+use Rattle.sl_base.specs.Counting.{Rose}
 use Rattle.sl_ports.specs.declared.sinks.SinkAnswer.{SinkAnswer}
 use Rattle.sl_ports.specs.declared.sinks.SinkAnswer.TheVariants.{Done, Failed}
 

@@ -1,7 +1,7 @@
 //! The calls of one kind on a memory end, and which of them are to fail.
 
 ghost use Rattle.std.specs.Prelude.{◌≡◌};
-ghost use Rattle.sl_ports.specs.Faults.{raised};
+ghost use Rattle.sl_base.specs.Counting.{raised};
 ghost use Rattle.sl_ports.specs.Calls.{untried, is_to_fail, counted};
 
 use std::marker::Model;

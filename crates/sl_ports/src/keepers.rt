@@ -1,7 +1,7 @@
 //! Where files are kept.
 
 ghost use Rattle.std.specs.Prelude.{◌≡◌, ℕ, Option};
-ghost use Rattle.sl_ports.specs.Faults.{Counts};
+ghost use Rattle.sl_base.specs.Counting.{Counts};
 ghost use Rattle.sl_ports.specs.Files.{Files};
 ghost use Rattle.sl_ports.specs.Reading.{Reads, is_failed as read_failed};
 ghost use Rattle.sl_ports.specs.Keeping.{kept, is_failed as write_failed};

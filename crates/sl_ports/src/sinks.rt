@@ -1,7 +1,7 @@
 //! Where bytes go.
 
 ghost use Rattle.std.specs.Prelude.{ℕ, List, Option};
-ghost use Rattle.sl_ports.specs.Faults.{Counts};
+ghost use Rattle.sl_base.specs.Counting.{Counts};
 ghost use Rattle.sl_ports.specs.Texts.{is_failed, Writes};
 
 /// What came of a write.

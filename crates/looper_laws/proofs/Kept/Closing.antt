@@ -7,7 +7,7 @@ use Rattle.std.proofs.lemmas.Bool.Decides.{nat_tests}
 use Rattle.std.proofs.Math.Nat.{mod-lt}
 use Rattle.sl_commands.specs.declared.Mode.{Mode}
 use Rattle.sl_commands.specs.declared.Mode.TheVariants.{Off, Recording, Playing, Overdubbing, Multiplying, Inserting, Replacing, Substituting}
-use Rattle.sl_commands.specs.Settings.{max_length}
+use Rattle.sl_base.specs.Limits.{max_list_frames}
 use Rattle.looper_rules.specs.Layers.{Cell, Layer, unmarked, total_seams, with_current, without_current, current_length, current_base_length, current_end}
 use Rattle.looper_rules.specs.Loop.{Loop, is_writing, length_of, base_length_of}
 use Rattle.looper_rules.specs.Closing.{closing_cycle, closed_layer, finished_layer, finished, dropped, closes_as, closed_recording, multiply_cut, closed_from, closed}
@@ -70,8 +70,8 @@ cut_closes pos tape l h inside =
 
 -- a layer that closes has no more cells than before
 closed_short :
-    {A : Type 0} (cut : Option ℕ) (tape : ℕ) (l : Layer A) → length l.cells ≤ max_length →
-    length (finished_layer cut tape l).cells ≤ max_length
+    {A : Type 0} (cut : Option ℕ) (tape : ℕ) (l : Layer A) → length l.cells ≤ max_list_frames →
+    length (finished_layer cut tape l).cells ≤ max_list_frames
 closed_short None tape l short = rw length-unmarked short
 closed_short (Some count) tape l short = rw (length-unmarked, length-take) (omega arith)
 

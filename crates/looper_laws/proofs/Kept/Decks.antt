@@ -2,7 +2,7 @@
 use Rattle.std.proofs.Common.{◌≡◌, ℕ, ◌+◌, ◌≤◌, min, Option, None, Bool, refl, arith, ◌∙◌}
 use Rattle.sl_commands.specs.declared.Mode.{Mode}
 use Rattle.sl_commands.specs.declared.Mode.TheVariants.{Recording, Overdubbing, Multiplying, Inserting, Replacing, Substituting}
-use Rattle.looper_rules.specs.Limits.{max_value}
+use Rattle.sl_base.specs.Limits.{max_value}
 use Rattle.looper_rules.specs.Stack.{Stack, LastWrite}
 use Rattle.looper_rules.specs.Loop.{Deck, Loop, refused_once}
 use Rattle.looper_rules.specs.States.{InMode, IsRun, IsStack}

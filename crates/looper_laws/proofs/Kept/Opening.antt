@@ -5,8 +5,7 @@ use Rattle.sl_commands.specs.declared.Mode.{Mode}
 use Rattle.sl_commands.specs.declared.Mode.TheVariants.{Overdubbing, Multiplying, Inserting, Replacing, Substituting}
 use Rattle.sl_commands.specs.declared.Started.{Started}
 use Rattle.sl_commands.specs.declared.Started.TheVariants.{Ok}
-use Rattle.sl_commands.specs.Settings.{max_length}
-use Rattle.looper_rules.specs.Limits.{max_layers, max_seams}
+use Rattle.sl_base.specs.Limits.{max_layers, max_seams, max_list_frames}
 use Rattle.looper_rules.specs.Layers.{Layer, total_seams, current_length, current_end}
 use Rattle.looper_rules.specs.Stack.{Stack, pinned_tape}
 use Rattle.looper_rules.specs.Room.{chunks_of}
@@ -40,7 +39,7 @@ new_layer-seams false tape (l ∷ ls) = refl
 -- its list is no longer than another
 new_layer_short :
     {A : Type 0} (empty : Bool) (tape last : ℕ) (layers : List (Layer A)) → AreWithin last layers →
-    length (new_layer empty tape layers).cells ≤ max_length
+    length (new_layer empty tape layers).cells ≤ max_list_frames
 new_layer_short true tape last layers within = omega arith
 new_layer_short false tape last [] within = omega arith
 new_layer_short false tape last (l ∷ ls) within = rw length-unmarked within.0.0

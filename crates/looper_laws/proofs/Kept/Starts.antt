@@ -12,7 +12,8 @@ use Rattle.sl_commands.specs.declared.Control.TheVariants.{Feedback, Wet, Round,
 use Rattle.sl_commands.specs.declared.Entry.{Entry}
 use Rattle.sl_commands.specs.declared.StripSettings.{StripSettings}
 use Rattle.sl_commands.specs.Controls.{is_in_range}
-use Rattle.sl_commands.specs.Settings.{LooperSettings, default_strip, default_settings, max_length, are_globals, is_cycle_of, is_strip, are_strips, is_rate, is_loop_count}
+use Rattle.sl_commands.specs.Settings.{LooperSettings, default_strip, default_settings, are_globals, is_cycle_of, is_strip, are_strips, is_rate, is_loop_count}
+use Rattle.sl_base.specs.Limits.{max_list_frames}
 use Rattle.sl_commands.proofs.SettingsLemmas.{are_settings-default}
 use Rattle.looper_rules.specs.Layers.{Layer, old_cell, old_cells, current_length, current_cycle}
 use Rattle.looper_rules.specs.Stack.{empty_stack}
@@ -31,7 +32,7 @@ use Rattle.looper_laws.proofs.Kept.Runs.{begun_keeps, entered_keeps}
 
 -- what a strip's settings say, one by one
 record InStrip (s : StripSettings) : Type 0 where
-  length_to : s.length ≤ max_length
+  length_to : s.length ≤ max_list_frames
   cycle : is_cycle_of s.length s.cycle ≡ true
   controls : AreControls (controls_of s)
 
@@ -50,8 +51,8 @@ all_seven a b c d e f g h =
 
 in_strip : (s : StripSettings) → is_strip s ≡ true → InStrip s
 in_strip s h =
-    let seven = all_seven (nat_le s.length max_length) (is_cycle_of s.length s.cycle) (is_in_range Feedback (pos s.feedback) 0) (is_in_range Wet (pos s.wet) 0) (is_in_range Round (pos s.round) 0) (is_in_range Quantize (pos s.quantize) 0) (is_in_range RecThresh (pos s.rec_thresh) 0) h
-    in record { length_to = leb-true s.length max_length seven.0; cycle = seven.1; controls = record { feedback = seven.2; wet = seven.3; round = seven.4; quantize = seven.5; rec_thresh = seven.6 } }
+    let seven = all_seven (nat_le s.length max_list_frames) (is_cycle_of s.length s.cycle) (is_in_range Feedback (pos s.feedback) 0) (is_in_range Wet (pos s.wet) 0) (is_in_range Round (pos s.round) 0) (is_in_range Quantize (pos s.quantize) 0) (is_in_range RecThresh (pos s.rec_thresh) 0) h
+    in record { length_to = leb-true s.length max_list_frames seven.0; cycle = seven.1; controls = record { feedback = seven.2; wet = seven.3; round = seven.4; quantize = seven.5; rec_thresh = seven.6 } }
 
 -- the layer of a list that is loaded
 loaded_closed :
@@ -89,9 +90,9 @@ first_keeps chunks [] s valid same within =
     }
 first_keeps chunks (x ∷ xs) s valid same within =
     let strip = in_strip s valid
-    in let most : s.length ≤ max_length = strip.length_to
+    in let most : s.length ≤ max_list_frames = strip.length_to
     in let cells : length (old_cells (x ∷ xs)) ≡ suc (length xs) = length-map (x ∷ xs) old_cell
-    in let short : length (old_cells (x ∷ xs)) ≤ max_length = omega arith
+    in let short : length (old_cells (x ∷ xs)) ≤ max_list_frames = omega arith
     in let closed : IsClosed (loaded_layer (x ∷ xs) s.cycle (length (x ∷ xs))) = loaded_closed x xs s.cycle (length (x ∷ xs)) (subst (λ n. is_cycle_of n s.cycle ≡ true) (sym same) strip.cycle)
     in let all : suc (length xs) ≤ suc (length xs) = omega arith
     in let stack : IsStack (loaded_stack (x ∷ xs) s.cycle) = record { layers_within = ((short, all), tt); redo_within = tt; pin_within = omega arith; count = omega arith; seams = omega arith; order = (omega arith, tt); redo_order = tt }
@@ -211,7 +212,7 @@ told_in_mode Multiplying layers redo at backward h = open_cycle layers h.0
 told_in_mode _ layers redo at backward h = closed_cycle layers h.0.0
 
 -- the current list isn't too long
-current_short : {A : Type 0} (tape : ℕ) (layers : List (Layer A)) → AreWithin tape layers → current_length layers ≤ max_length
+current_short : {A : Type 0} (tape : ℕ) (layers : List (Layer A)) → AreWithin tape layers → current_length layers ≤ max_list_frames
 current_short tape [] within = omega arith
 current_short tape (l ∷ ls) within = within.0.0
 
@@ -219,7 +220,7 @@ current_short tape (l ∷ ls) within = within.0.0
 pub strip_valid : (frame : ℕ) (t : Track) → IsTrack frame t → is_strip (strip_of t.loop) ≡ true
 strip_valid frame t h =
     and_from _ _ (and_from _ _ (and_from _ _ (and_from _ _ (and_from _ _ (and_from _ _
-    (le-leb (length_of t.loop) max_length (current_short t.loop.stack.tape t.loop.stack.layers h.loop.stack.layers_within))
+    (le-leb (length_of t.loop) max_list_frames (current_short t.loop.stack.tape t.loop.stack.layers h.loop.stack.layers_within))
     (told_in_mode t.loop.deck.mode t.loop.stack.layers t.loop.stack.redo t.loop.deck.pos t.loop.deck.backward h.loop.in_mode))
     h.controls.feedback) h.controls.wet) h.controls.round) h.controls.quantize) h.controls.rec_thresh
 

@@ -7,8 +7,7 @@ use Rattle.std.proofs.lemmas.List.Edits.{length-insert}
 use Rattle.sl_commands.specs.declared.Mode.TheVariants.{Multiplying}
 use Rattle.sl_commands.specs.declared.How.{How}
 use Rattle.sl_commands.specs.declared.How.TheVariants.{Forward, Backward, Insert, Append}
-use Rattle.sl_commands.specs.Settings.{max_length}
-use Rattle.looper_rules.specs.Limits.{max_seams, chunk_frames}
+use Rattle.sl_base.specs.Limits.{max_seams, chunk_frames, max_list_frames}
 use Rattle.looper_rules.specs.Layers.{Cell, Layer, fresh_cell, total_seams, with_current, current_length, current_base_length, current_base_seams, current_end}
 use Rattle.looper_rules.specs.Stack.{Stack, LastWrite}
 use Rattle.looper_rules.specs.Room.{chunks_of, has_room}
@@ -64,7 +63,7 @@ pub record Writes {A : Type 0} (a : Unchanged) (how : How) (place : ℕ) (s : St
   pub seams_within : total_seams s.layers + seams ≤ max_seams
   pub longer : s.tape ≤ tape
   pub in_reach : chunks_of tape ≤ a.reach
-  pub short : overwrites how ≡ false → current_length s.layers < max_length
+  pub short : overwrites how ≡ false → current_length s.layers < max_list_frames
 
 -- the layers after a write
 abbrev pub written_layers : {A : Type 0} → How → ℕ → A → ℕ → List (Layer A) → List (Layer A)
@@ -110,16 +109,16 @@ current_length-added Kind how place x seams (l ∷ ls) has over inside = length-
 -- a list that was short enough
 written_short :
     {A : Type 0} (how : How) (place : ℕ) (x : A) (cells : List (Cell A)) (over : Bool) → overwrites how ≡ over →
-    place ≤ length cells → length cells ≤ max_length → (overwrites how ≡ false → length cells < max_length) →
-    length (with_cell how place (fresh_cell x) cells) ≤ max_length
+    place ≤ length cells → length cells ≤ max_list_frames → (overwrites how ≡ false → length cells < max_list_frames) →
+    length (with_cell how place (fresh_cell x) cells) ≤ max_list_frames
 written_short how place x cells true is inside short room = (let same = length-over how place (fresh_cell x) cells is in omega arith)
 written_short how place x cells false is inside short room =
-    (let more = length-added how place (fresh_cell x) cells is inside in let below : length cells < max_length = room is in omega arith)
+    (let more = length-added how place (fresh_cell x) cells is inside in let below : length cells < max_list_frames = room is in omega arith)
 
 -- layers within their limits
 written_within :
     {A : Type 0} (how : How) (place : ℕ) (x : A) (seams less more : ℕ) (layers : List (Layer A)) → place ≤ current_length layers →
-    (overwrites how ≡ false → current_length layers < max_length) → less ≤ more → AreWithin less layers →
+    (overwrites how ≡ false → current_length layers < max_list_frames) → less ≤ more → AreWithin less layers →
     AreWithin more (written_layers how place x seams layers)
 written_within how place x seams less more [] inside room longer within = tt
 written_within how place x seams less more (l ∷ ls) inside room longer within =
@@ -193,16 +192,16 @@ new_seams true total free most = omega arith
 new_seams false total free most = (let few : total ≤ max_seams - 2 = leb-true total (max_seams - 2) free in omega arith)
 
 -- a place for a list that grows
-new_room : (over : Bool) (len : ℕ) → (over || nat_lt len max_length) ≡ true → over ≡ false → len < max_length
+new_room : (over : Bool) (len : ℕ) → (over || nat_lt len max_list_frames) ≡ true → over ≡ false → len < max_list_frames
 new_room true len free adds = absurd (let none : ⊥ = Prim.cc in none)
-new_room false len free adds = ltb-true len max_length free
+new_room false len free adds = ltb-true len max_list_frames free
 
 -- a new cell that fits has all that it asks
 pub new_fits :
     {A : Type 0} {a : Unchanged} {l : Loop A} (how : How) (place : ℕ) → Keeps a l → place ≤ length_of l →
     new_cell_fits a.reach how l.stack ≡ true → Writes a how place l.stack (cond (is_some l.stack.run) 0 2) (l.stack.tape + 1)
 new_fits {a = a} {l = l} how place h inside fits =
-    let parts = and_parts (has_room a.reach l.stack.tape && (is_some l.stack.run || nat_le (total_seams l.stack.layers) (max_seams - 2))) (overwrites how || nat_lt (current_length l.stack.layers) max_length) fits
+    let parts = and_parts (has_room a.reach l.stack.tape && (is_some l.stack.run || nat_le (total_seams l.stack.layers) (max_seams - 2))) (overwrites how || nat_lt (current_length l.stack.layers) max_list_frames) fits
     in let first = and_parts (has_room a.reach l.stack.tape) (is_some l.stack.run || nat_le (total_seams l.stack.layers) (max_seams - 2)) parts.0
     in record {
       inside = inside;
@@ -224,7 +223,7 @@ extended_open (l ∷ ls) has =
     in ((record { base_not_empty = has.0.base_not_empty; base_within = omega arith; cycle_from = has.0.cycle_from; cycle_to = has.0.cycle_to }, has.1), omega arith)
 
 extended_within :
-    {A : Type 0} (tape : ℕ) (layers : List (Layer A)) → current_length layers + current_base_length layers ≤ max_length →
+    {A : Type 0} (tape : ℕ) (layers : List (Layer A)) → current_length layers + current_base_length layers ≤ max_list_frames →
     AreWithin tape layers → AreWithin tape (with_current with_base layers)
 extended_within tape [] short within = tt
 extended_within tape (l ∷ ls) short within = ((rw (length-append, length-map) short, within.0.1), within.1)
@@ -243,7 +242,7 @@ pub extended_keeps :
     Type 0} {a : Unchanged} {l : Loop A} → Keeps a l → InMode Multiplying l.stack.layers l.stack.redo l.deck.pos l.deck.backward → l.deck.mode ≡ Multiplying → extension_fits l.stack ≡ true →
     Keeps a (with_stack (extended l.stack) l) × (l.deck.pos < length_of (with_stack (extended l.stack) l))
 extended_keeps {l = l} h now is fits =
-    let parts = and_parts (nat_le (current_length l.stack.layers + current_base_length l.stack.layers) max_length) (nat_le (total_seams l.stack.layers + current_base_seams l.stack.layers) max_seams) fits
+    let parts = and_parts (nat_le (current_length l.stack.layers + current_base_length l.stack.layers) max_list_frames) (nat_le (total_seams l.stack.layers + current_base_seams l.stack.layers) max_seams) fits
     in let opens = extended_open l.stack.layers now.0
     in let inside : l.deck.pos ≤ current_length l.stack.layers = now.2
     in let longer : current_length l.stack.layers < current_length (with_current with_base l.stack.layers) = opens.1

@@ -6,7 +6,7 @@ use Rattle.std.proofs.lemmas.List.Sums.{sum_by-cons}
 use Rattle.sl_commands.specs.declared.How.{How}
 use Rattle.sl_commands.specs.declared.How.TheVariants.{Append}
 use Rattle.sl_commands.specs.declared.Started.TheVariants.{Ok}
-use Rattle.looper_rules.specs.Limits.{max_layers, max_seams}
+use Rattle.sl_base.specs.Limits.{max_layers, max_seams}
 use Rattle.looper_rules.specs.Layers.{Layer, seams_of, total_seams, with_current, without_current, current_end}
 use Rattle.looper_rules.specs.Stack.{Stack, LastWrite, run_broken}
 use Rattle.looper_rules.specs.Room.{chunks_of, has_room}

@@ -7,7 +7,7 @@ use Rattle.std.proofs.lemmas.List.Sums.{sum_by-cons, sum_by-append, sum_by_push}
 use Rattle.sl_base.specs.Sounds.{Sound}
 use Rattle.sl_commands.specs.declared.Target.{Target}
 use Rattle.sl_commands.specs.declared.Target.TheVariants.{One, All, Selected}
-use Rattle.looper_rules.specs.Limits.{chunk_frames}
+use Rattle.sl_base.specs.Limits.{chunk_frames}
 use Rattle.looper_rules.specs.Layers.{Layer}
 use Rattle.looper_rules.specs.Room.{chunks_of, used, has_room}
 use Rattle.looper_rules.specs.Loop.{Loop}

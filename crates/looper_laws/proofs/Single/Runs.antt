@@ -5,7 +5,7 @@ use Rattle.std.proofs.lemmas.List.Elements.{All-head, All-tail}
 use Rattle.sl_base.specs.Sounds.{Sound, IsFrame}
 use Rattle.sl_commands.specs.declared.Verb.TheVariants.{Rec}
 use Rattle.sl_commands.specs.declared.Entry.{Entry}
-use Rattle.sl_commands.specs.Settings.{max_length}
+use Rattle.sl_base.specs.Limits.{max_list_frames}
 use Rattle.sl_commands.specs.Entries.{FramesNeverFall, are_stamped, are_valid}
 use Rattle.looper_rules.specs.Room.{chunks_of}
 use Rattle.looper_rules.specs.Looper.{Looper}
@@ -76,7 +76,7 @@ record IsSingleFrom (hits : List ℕ) (frame : ℕ) (s : Stage) (input : List So
   saves : ran.saves ≡ []
   refused : map refused_on ran.looper.tracks ≡ 0 ∷ []
 
-module _ (rate chunks count : ℕ) (fits : count ≤ max_length) (room : max 1 (chunks_of count) ≤ chunks) where
+module _ (rate chunks count : ℕ) (fits : count ≤ max_list_frames) (room : max 1 (chunks_of count) ≤ chunks) where
   -- what hits give behind the last frame
   entered_hits : (number frame : ℕ) (hits : List ℕ) (s : Stage) → length hits ≤ hits_left s → IsReached frame s →
       (last : Stage) × (entered count (hits_from number hits) (looper_at rate chunks s) ≡ record { replies = []; saves = []; looper = looper_at rate chunks last })
@@ -104,7 +104,7 @@ module _ (rate chunks count : ℕ) (fits : count ≤ max_length) (room : max 1 (
 
   -- a frame before which no entry is due
   begun-frame : (frame : ℕ) (es : List Entry) (x : Sound) (xs : List Sound) (s : Stage) → FramesNeverFall (frame + 1) es →
-      frame < max_length → chunks_of (frame + 1) ≤ chunks → IsReached frame s →
+      frame < max_list_frames → chunks_of (frame + 1) ≤ chunks → IsReached frame s →
       begun frame es (x ∷ xs) (looper_at rate chunks s)
       ≡ begun_before (entered frame [] (looper_at rate chunks s)) (heard (single s)) (begun (frame + 1) es xs (looper_at rate chunks (after_at x s)))
   begun-frame frame es x xs s order short fit is =
@@ -127,7 +127,7 @@ module _ (rate chunks count : ℕ) (fits : count ≤ max_length) (room : max 1 (
       IsSingleFrom hits (frame + 1) (after_at x s) xs (ended count (begun (frame + 1) (hits_from number hits) xs (looper_at rate chunks (after_at x s)))) →
       IsSingleFrom hits frame s (x ∷ xs) (ended count (begun frame (hits_from number hits) (x ∷ xs) (looper_at rate chunks s)))
   goes_on number frame hits s x xs order within is rest =
-      let short : frame < max_length = omega arith in
+      let short : frame < max_list_frames = omega arith in
       let fit : chunks_of (frame + 1) ≤ chunks = omega arith in
       let looper = ap (ended count) (begun-frame frame (hits_from number hits) x xs s order short fit is) in
       let loop = ap (λ now. heard now ∷ run_from hits (frame + 1) (after now x) xs) (hit_at-later number hits frame (single s) order)

@@ -10,8 +10,8 @@ use Rattle.sl_base.specs.Sounds.{Sound, silence, IsFrame, scaled_sound}
 use Rattle.sl_commands.specs.declared.Mode.TheVariants.{Off, Recording, Playing}
 use Rattle.sl_commands.specs.declared.How.TheVariants.{Append}
 use Rattle.sl_commands.specs.declared.Verb.TheVariants.{Rec}
-use Rattle.sl_commands.specs.Settings.{max_length, default_globals}
-use Rattle.looper_rules.specs.Limits.{max_seams}
+use Rattle.sl_commands.specs.Settings.{default_globals}
+use Rattle.sl_base.specs.Limits.{max_seams, max_list_frames}
 use Rattle.looper_rules.specs.Layers.{Cell, Layer, fresh_cell, contents, content_of, unmarked, total_seams}
 use Rattle.looper_rules.specs.Stack.{Stack, LastWrite, empty_stack}
 use Rattle.looper_rules.specs.Gains.{output_of}
@@ -204,13 +204,13 @@ played_on layer tape place true = refl
 played_on layer tape place false = refl
 
 -- the loop after a frame
-pub after-loop : (frames reach : ℕ) (x : Sound) (s : Stage) → frames < max_length → chunks_of (frames + 1) ≤ reach → IsReached frames s → after x reach (loop_at s) ≡ loop_at (after_at x s)
+pub after-loop : (frames reach : ℕ) (x : Sound) (s : Stage) → frames < max_list_frames → chunks_of (frames + 1) ≤ reach → IsReached frames s → after x reach (loop_at s) ≡ loop_at (after_at x s)
 after-loop frames reach x Silent short room is = refl
 after-loop frames reach x (Records cells tape seams run) short room is =
     let place : tape ≤ frames = is.within in
     let fits : chunks_of (tape + 1) ≤ reach = omega arith in
-    let count : length cells < max_length = (let at : tape ≡ length cells = is.length_is in omega arith) in
-    rw (room_for_one reach tape fits, is.seams_fit, lt-ltb (length cells) max_length count) refl
+    let count : length cells < max_list_frames = (let at : tape ≡ length cells = is.length_is in omega arith) in
+    rw (room_for_one reach tape fits, is.seams_fit, lt-ltb (length cells) max_list_frames count) refl
 after-loop frames reach x (Plays layer tape place) short room is = played_on layer tape place (place + 1 == length layer.cells)
 
 -- the single loop after a frame
@@ -273,7 +273,7 @@ framed-stage frame rate chunks x (Records cells tape seams run) = refl
 framed-stage frame rate chunks x (Plays layer tape place) = refl
 
 -- the looper's frame is the single loop's
-pub framed-single : (frame rate chunks : ℕ) (x : Sound) (s : Stage) → frame < max_length → chunks_of (frame + 1) ≤ chunks → IsReached frame s →
+pub framed-single : (frame rate chunks : ℕ) (x : Sound) (s : Stage) → frame < max_list_frames → chunks_of (frame + 1) ≤ chunks → IsReached frame s →
     framed frame x (looper_at rate chunks s) ≡ record { output = Single.heard (single s); looper = looper_at rate chunks (after_at x s) }
 framed-single frame rate chunks x s short room is =
     let all : chunks ≤ reach_at chunks s = reaches_all chunks s in

@@ -1,6 +1,6 @@
--- What stands outside of the program keeps counts of its faults, one for each kind of call.
--- A count never falls. It rises by one in each call of its kind that answers a failure, and in no other call.
--- At the last value of its type it stands still.
+-- A count of failures, as of faults or of rings that were full, never falls. It rises by one in each call of its kind
+-- that fails, and in no other call. At the last value of its type it stands still.
+-- "Counts of failures" in docs/rules.md.
 use Rattle.std.specs.Prelude.{◌≡◌, ℕ, ◌+◌, ◌-◌, ◌^◌, ◌≤◌, min, max, Bool, IsTrue, IsFalse}
 
 -- the last value of a count
@@ -15,7 +15,7 @@ raised count = max count (min (count + 1) last_count)
 abbrev pub Rose : ℕ → ℕ → Type 0
 Rose before now = min (before + 1) last_count ≤ now
 
--- what a call that failed or not did to the count of its faults
+-- what a call that failed or not did to its count
 pub record Counts (before now : ℕ) (failed : Bool) : Type 0 where
   pub later : before ≤ now
   pub rose : IsTrue failed → Rose before now
