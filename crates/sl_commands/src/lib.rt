@@ -12,7 +12,7 @@
 //!
 //! Begin with `verb` and `control`, then `command`, `entry`, `settings` and `block`; `laws` has what holds of the
 //! definitions.
-//! The rules are "Verbs and their names", "Controls", "Commands", "Entries", "Settings", "Blocks of a save" and "Faults
+//! The rules are "Verbs and their names", "Controls", "Commands", "Entries", "Settings", "Replies", "Blocks of a save" and "Faults
 //! of texts" in docs/rules.md.
 #![tactic(auto)]
 
