@@ -15,3 +15,5 @@ pub mod Settings
 pub mod Entries
 pub mod Runs
 pub mod Starts
+pub mod Sessions
+pub mod Constants

@@ -37,8 +37,8 @@ pub use other_layers::{
 pub use reached::{
     a_closing_keeps_the_loop, a_frame_keeps_the_loop, a_frame_keeps_the_looper,
     a_kept_loop_is_a_loop, a_kept_looper_is_a_looper, a_run_begins_with_a_looper,
-    a_verb_keeps_the_loop, an_entry_keeps_the_looper, an_opening_keeps_the_loop,
-    each_state_of_a_run_is_a_looper,
+    a_run_keeps_its_rate_and_its_chunks, a_verb_keeps_the_loop, an_entry_keeps_the_looper,
+    an_opening_keeps_the_loop, each_state_of_a_run_is_a_looper,
 };
 pub use replies::{
     a_frame_comes_out_for_each_that_goes_in, a_get_or_a_save_is_answered_once,

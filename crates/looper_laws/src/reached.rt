@@ -15,10 +15,11 @@ ghost use Rattle.looper_rules.specs.Presses.{given, waiting_acts};
 ghost use Rattle.looper_rules.specs.LoopFrame.{ready, after};
 ghost use Rattle.looper_rules.specs.Looper.{Looper};
 ghost use Rattle.looper_rules.specs.Entries.{applied};
-ghost use Rattle.looper_rules.specs.Frame.{framed};
+ghost use Rattle.looper_rules.specs.Frame.{at_boundaries, framed_from, framed};
 ghost use Rattle.looper_rules.specs.Run.{entered, begun, run, start};
+ghost use Rattle.looper_rules.specs.Cuts.{run_from};
 ghost use Rattle.looper_rules.specs.States.{AreClosed, ArePlayable, IsLoop, IsLooper};
-ghost use Rattle.looper_rules.specs.Reached.{Unchanged, IsLayering, KeepsLoops, Keeps, KeepsLooper, IsBeginning};
+ghost use Rattle.looper_rules.specs.Reached.{Unchanged, IsLayering, KeepsLoops, Keeps, KeepsLooper, SameRateAndChunks, IsBeginning};
 
 /// What a loop keeps is more than what always holds of it.
 pub fn a_kept_loop_is_a_loop()
@@ -61,10 +62,13 @@ pub fn an_entry_keeps_the_looper()
     ensures { (frame : ℕ) (e : Entry) (l : Looper) → KeepsLooper frame l → KeepsLooper frame (applied frame e l) }
 {}
 
-/// A frame keeps it, with its boundaries, and then one frame more is done.
+/// A frame keeps it, and then one frame more is done. So does each half of it: first the waiting verbs act at their
+/// boundaries, and then the frame is played.
 pub fn a_frame_keeps_the_looper()
-    ensures { (done frame : ℕ) (x : Sound) (l : Looper) → KeepsLooper done l →
+    ensures whole { (done frame : ℕ) (x : Sound) (l : Looper) → KeepsLooper done l →
         KeepsLooper (done + 1) (framed frame x l).looper }
+    ensures boundaries { (done frame : ℕ) (l : Looper) → KeepsLooper done l → KeepsLooper done (at_boundaries frame l) }
+    ensures behind { (done : ℕ) (x : Sound) (l : Looper) → KeepsLooper done l → KeepsLooper (done + 1) (framed_from x l).looper }
 {}
 
 /// A run begins with it, and new loops may begin a run.
@@ -75,15 +79,31 @@ pub fn a_run_begins_with_a_looper()
         IsBeginning (default_settings rate loops) chunks [] }
 {}
 
-/// Each state of a run is a looper: after any frames, after any entries behind them, and at the end.
+/// Each state of a run keeps it, and so is a looper: after any frames, after any entries behind them, and at the end.
 pub fn each_state_of_a_run_is_a_looper()
     ensures frames { (s : LooperSettings) (chunks : ℕ) (lists : List (List Sound)) (es : List Entry) (xs : List Sound) →
         IsBeginning s chunks lists →
-        IsLooper (length xs) (begun 0 es xs (start s chunks lists)).looper }
+        KeepsLooper (length xs) (begun 0 es xs (start s chunks lists)).looper }
     ensures entries { (s : LooperSettings) (chunks : ℕ) (lists : List (List Sound)) (es more : List Entry) (xs : List Sound) →
         IsBeginning s chunks lists →
-        IsLooper (length xs) (entered (length xs) more (begun 0 es xs (start s chunks lists)).looper).looper }
+        KeepsLooper (length xs) (entered (length xs) more (begun 0 es xs (start s chunks lists)).looper).looper }
     ensures end { (s : LooperSettings) (chunks : ℕ) (lists : List (List Sound)) (es : List Entry) (xs : List Sound) →
         IsBeginning s chunks lists →
-        IsLooper (length xs) (run es xs (start s chunks lists)).looper }
+        KeepsLooper (length xs) (run es xs (start s chunks lists)).looper }
+
+    // The same from any looper that keeps it.
+    ensures begun { (frame : ℕ) (es : List Entry) (xs : List Sound) (l : Looper) → KeepsLooper frame l →
+        KeepsLooper (frame + length xs) (begun frame es xs l).looper }
+    ensures entered { (frame : ℕ) (es : List Entry) (l : Looper) → KeepsLooper frame l → KeepsLooper frame (entered frame es l).looper }
+    ensures from { (frame : ℕ) (es : List Entry) (xs : List Sound) (l : Looper) → KeepsLooper frame l →
+        KeepsLooper (frame + length xs) (run_from frame es xs l).looper }
+{}
+
+/// The rate and the number of chunks stay as they are.
+pub fn a_run_keeps_its_rate_and_its_chunks()
+    ensures entry { (frame : ℕ) (e : Entry) (l : Looper) → SameRateAndChunks l (applied frame e l) }
+    ensures frame { (frame : ℕ) (x : Sound) (l : Looper) → SameRateAndChunks l (framed frame x l).looper }
+    ensures entered { (frame : ℕ) (es : List Entry) (l : Looper) → SameRateAndChunks l (entered frame es l).looper }
+    ensures begun { (frame : ℕ) (es : List Entry) (xs : List Sound) (l : Looper) → SameRateAndChunks l (begun frame es xs l).looper }
+    ensures run { (frame : ℕ) (es : List Entry) (xs : List Sound) (l : Looper) → SameRateAndChunks l (run_from frame es xs l).looper }
 {}

@@ -1,6 +1,7 @@
 -- What makes the facts of "States" last, from one call and one frame to the next. Beside them:
 -- - the tape of a loop takes at most the chunks that the loop reaches;
--- - verbs and frames leave the controls, the press and whether a pin stands as they were.
+-- - verbs and frames leave the controls, the press and whether a pin stands as they were;
+-- - while a session's save runs, its pins stand on all loops.
 -- A run begins from settings in their ranges, with lists as long as their strips say, for which there are chunks.
 -- "States: what always holds" in docs/rules.md.
 use Rattle.std.specs.Prelude.{◌≡◌, ℕ, ◌≤◌, ⊤, Bool, false, IsTrue, List, [], ◌∷◌, length, map, Option, is_some}
@@ -13,6 +14,7 @@ use Rattle.sl_commands.specs.Settings.{LooperSettings, are_settings}
 use Rattle.looper_rules.specs.Room.{chunks_of, used}
 use Rattle.looper_rules.specs.Loop.{Controls, Loop}
 use Rattle.looper_rules.specs.Looper.{Track, Looper, tape_of}
+use Rattle.looper_rules.specs.Pins.{SessionIsWhole}
 use Rattle.looper_rules.specs.States.{IsLoop, IsTrack, IsLooper}
 
 -- what verbs and frames leave as it is: the chunks in reach, whether a pin stands, the controls and the press
@@ -55,6 +57,12 @@ pub record KeepsTrack (reach frame : ℕ) (t : Track) : Type 0 where
 -- what a looper keeps, when so many frames are done
 pub record KeepsLooper (frame : ℕ) (l : Looper) : Type 0 where
   pub looper : IsLooper frame l
+  pub session : SessionIsWhole l.tracks
+
+-- what no entry and no frame changes of a looper
+pub record SameRateAndChunks (old new : Looper) : Type 0 where
+  pub rate : new.rate ≡ old.rate
+  pub chunks : new.chunks ≡ old.chunks
 
 -- each list is as long as its strip says, and lists that aren't given are empty
 abbrev pub AreLists : List StripSettings → List (List Sound) → Type 0

@@ -43,7 +43,7 @@ at_target-same All selected act free ts = swept-same act ts free
 at_target-same Selected selected act free ts = at_index-same selected act free ts
 
 -- a frame leaves all askers
-played-same : (step : ℕ) (x : Sound) (ts : List Track) (free : ℕ) →
+pub played-same : (step : ℕ) (x : Sound) (ts : List Track) (free : ℕ) →
     askers_of (map played_on (swept played_on (played step x) free ts)) ≡ askers_of ts
 played-same step x [] free = refl
 played-same step x (t ∷ ts) free = ap (λ rest. t.asker ∷ rest) (played-same step x ts _)

@@ -11,10 +11,13 @@ use Rattle.looper_rules.specs.Looper.{Looper, tape_of, faces_of, free_of, on_loo
 use Rattle.looper_rules.specs.Frame.{at_boundary, at_boundaries, played_on, played, all_played, framed_from, framed}
 use Rattle.looper_rules.specs.Entries.{applied}
 use Rattle.looper_rules.specs.Run.{entered, due, later, begun}
+use Rattle.looper_rules.specs.Cuts.{run_from}
 use Rattle.looper_rules.specs.States.{IsLooper}
+use Rattle.looper_rules.specs.Reached.{KeepsLooper}
 use Rattle.looper_laws.proofs.Kept.Tracks.{on_loop_keeps, swept_keeps, played_keeps, at_boundary_keeps, gain_within, one_frame_more, in_reach, are_tracks}
 use Rattle.looper_laws.proofs.Kept.Settings.{dry_range}
 use Rattle.looper_laws.proofs.Kept.Entries.{on_tracks, free_and_used, applied_keeps}
+use Rattle.looper_laws.proofs.Kept.Sessions.{applied-whole, at_boundaries-whole, framed_from-whole}
 
 -- the boundaries of a frame
 pub at_boundaries_keeps : {frame : ℕ} {l : Looper} (now : ℕ) → IsLooper frame l → IsLooper frame (at_boundaries now l)
@@ -37,22 +40,38 @@ framed_from_keeps {frame = frame} {l = l} x h =
       chunks = omega arith;
     }
 
--- a frame
-pub looper_framed_keeps : {frame : ℕ} {l : Looper} (now : ℕ) (x : Sound) → IsLooper frame l → IsLooper (frame + 1) (framed now x l).looper
-looper_framed_keeps {l = l} now x h = framed_from_keeps x (at_boundaries_keeps now h)
+-- each half of a frame, and a whole one
+pub boundaries_keep : (done now : ℕ) (l : Looper) → KeepsLooper done l → KeepsLooper done (at_boundaries now l)
+boundaries_keep done now l h = record { looper = at_boundaries_keeps now h.looper; session = at_boundaries-whole now l h.session }
+
+pub behind_keeps : (done : ℕ) (x : Sound) (l : Looper) → KeepsLooper done l → KeepsLooper (done + 1) (framed_from x l).looper
+behind_keeps done x l h = record { looper = framed_from_keeps x h.looper; session = framed_from-whole x l h.session }
+
+pub frame_keeps : (done now : ℕ) (x : Sound) (l : Looper) → KeepsLooper done l → KeepsLooper (done + 1) (framed now x l).looper
+frame_keeps done now x l h = behind_keeps done x (at_boundaries now l) (boundaries_keep done now l h)
+
+-- an entry
+pub entry_keeps : (frame : ℕ) (e : Entry) (l : Looper) → KeepsLooper frame l → KeepsLooper frame (applied frame e l)
+entry_keeps frame e l h = record { looper = applied_keeps frame e h.looper; session = applied-whole frame e l h.looper.tracks h.session }
 
 -- some entries
-pub entered_keeps : (frame : ℕ) (es : List Entry) (l : Looper) → IsLooper frame l → IsLooper frame (entered frame es l).looper
+pub entered_keeps : (frame : ℕ) (es : List Entry) (l : Looper) → KeepsLooper frame l → KeepsLooper frame (entered frame es l).looper
 entered_keeps frame [] l h = h
-entered_keeps frame (e ∷ es) l h = entered_keeps frame es (applied frame e l) (applied_keeps frame e h)
+entered_keeps frame (e ∷ es) l h = entered_keeps frame es (applied frame e l) (entry_keeps frame e l h)
 
 -- some frames
 pub begun_keeps :
-    (frame : ℕ) (es : List Entry) (xs : List Sound) (l : Looper) → IsLooper frame l →
-    IsLooper (frame + length xs) (begun frame es xs l).looper
+    (frame : ℕ) (es : List Entry) (xs : List Sound) (l : Looper) → KeepsLooper frame l →
+    KeepsLooper (frame + length xs) (begun frame es xs l).looper
 begun_keeps frame es [] l h = rw add-zero h
 begun_keeps frame es (x ∷ xs) l h =
-    let before : IsLooper frame (entered frame (due frame es) l).looper = entered_keeps frame (due frame es) l h
-    in let now : IsLooper (frame + 1) (framed frame x (entered frame (due frame es) l).looper).looper = looper_framed_keeps frame x before
+    let before : KeepsLooper frame (entered frame (due frame es) l).looper = entered_keeps frame (due frame es) l h
+    in let now : KeepsLooper (frame + 1) (framed frame x (entered frame (due frame es) l).looper).looper = frame_keeps frame frame x (entered frame (due frame es) l).looper before
     in let same : (frame + 1) + length xs ≡ frame + suc (length xs) = omega arith
-    in subst (λ at. IsLooper at (begun frame es (x ∷ xs) l).looper) same (begun_keeps (frame + 1) (later frame es) xs (framed frame x (entered frame (due frame es) l).looper).looper now)
+    in subst (λ at. KeepsLooper at (begun frame es (x ∷ xs) l).looper) same (begun_keeps (frame + 1) (later frame es) xs (framed frame x (entered frame (due frame es) l).looper).looper now)
+
+-- a run, whatever its first frame's number is
+pub run_keeps :
+    (frame : ℕ) (es : List Entry) (xs : List Sound) (l : Looper) → KeepsLooper frame l →
+    KeepsLooper (frame + length xs) (run_from frame es xs l).looper
+run_keeps frame es xs l h = entered_keeps (frame + length xs) (begun frame es xs l).left (begun frame es xs l).looper (begun_keeps frame es xs l h)

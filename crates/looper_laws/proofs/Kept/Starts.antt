@@ -24,10 +24,11 @@ use Rattle.looper_rules.specs.Values.{AreControls}
 use Rattle.looper_rules.specs.Saves.{saved_cycle, strip_of}
 use Rattle.looper_rules.specs.Run.{controls_of, loaded_layer, loaded_stack, first_track, first_tracks, start, begun, entered}
 use Rattle.looper_rules.specs.States.{IsClosed, IsOpenOver, AreClosed, HasCurrent, AreWaiting, InMode, AreWithin, IsStack, IsTrack, IsLooper}
-use Rattle.looper_rules.specs.Reached.{KeepsTrack, AreLists, IsBeginning}
+use Rattle.looper_rules.specs.Reached.{KeepsTrack, KeepsLooper, AreLists, IsBeginning}
 use Rattle.looper_laws.proofs.Kept.Layers.{contents-old_cells}
 use Rattle.looper_laws.proofs.Kept.Tracks.{used-cons, wet_within, are_tracks}
 use Rattle.looper_laws.proofs.Kept.Settings.{dry_range}
+use Rattle.looper_laws.proofs.Kept.Sessions.{first-whole}
 use Rattle.looper_laws.proofs.Kept.Runs.{begun_keeps, entered_keeps}
 
 -- what a strip's settings say, one by one
@@ -77,10 +78,10 @@ first_keeps :
     chunks_of (length list) ≤ chunks → KeepsTrack chunks 0 (first_track list s)
 first_keeps chunks [] s valid same within =
     let strip = in_strip s valid
-    in let stack : IsStack empty_stack = record { layers_within = tt; redo_within = tt; pin_within = omega arith; count = omega arith; seams = omega arith; order = tt; redo_order = tt }
+    in let nothing : IsStack empty_stack = record { layers_within = tt; redo_within = tt; pin_within = omega arith; count = omega arith; seams = omega arith; order = tt; redo_order = tt }
     in record {
       track = record {
-        loop = record { in_mode = ((refl, refl), tt); run = refl; stack = stack; refused = omega arith };
+        loop = record { in_mode = ((refl, refl), tt); run = refl; stack = nothing; refused = omega arith };
         controls = strip.controls;
         gain = wet_within (controls_of s) strip.controls;
         press = tt;
@@ -224,26 +225,27 @@ strip_valid frame t h =
     (told_in_mode t.loop.deck.mode t.loop.stack.layers t.loop.stack.redo t.loop.deck.pos t.loop.deck.backward h.loop.in_mode))
     h.controls.feedback) h.controls.wet) h.controls.round) h.controls.quantize) h.controls.rec_thresh
 
--- after some frames of a run
-begun_from_start :
+-- a run begins with a looper that keeps all this
+pub begins :
     (settings : LooperSettings) (chunks : ℕ) (lists : List (List Sound)) → IsBeginning settings chunks lists →
-    (es : List Entry) (xs : List Sound) → IsLooper (length xs) (begun 0 es xs (start settings chunks lists)).looper
-begun_from_start settings chunks lists h es xs =
-    let same : 0 + length xs ≡ length xs = omega arith
-    in subst (λ frame. IsLooper frame (begun 0 es xs (start settings chunks lists)).looper) same (begun_keeps 0 es xs (start settings chunks lists) (start_keeps settings chunks lists h))
+    KeepsLooper 0 (start settings chunks lists)
+begins settings chunks lists h = record { looper = start_keeps settings chunks lists h; session = first-whole settings.strips lists }
 
+-- after some frames of a run
 pub runs_begun :
     (settings : LooperSettings) (chunks : ℕ) (lists : List (List Sound)) → IsBeginning settings chunks lists →
-    (es : List Entry) (xs : List Sound) → IsLooper (length xs) (begun 0 es xs (start settings chunks lists)).looper
-runs_begun settings chunks lists h es xs = begun_from_start settings chunks lists h es xs
+    (es : List Entry) (xs : List Sound) → KeepsLooper (length xs) (begun 0 es xs (start settings chunks lists)).looper
+runs_begun settings chunks lists h es xs =
+    let same : 0 + length xs ≡ length xs = omega arith
+    in subst (λ frame. KeepsLooper frame (begun 0 es xs (start settings chunks lists)).looper) same (begun_keeps 0 es xs (start settings chunks lists) (begins settings chunks lists h))
 
 -- and after some entries behind them
 pub runs_entered :
     (settings : LooperSettings) (chunks : ℕ) (lists : List (List Sound)) → IsBeginning settings chunks lists →
     (es more : List Entry) (xs : List Sound) →
-    IsLooper (length xs) (entered (length xs) more (begun 0 es xs (start settings chunks lists)).looper).looper
+    KeepsLooper (length xs) (entered (length xs) more (begun 0 es xs (start settings chunks lists)).looper).looper
 runs_entered settings chunks lists h es more xs =
-    entered_keeps (length xs) more (begun 0 es xs (start settings chunks lists)).looper (begun_from_start settings chunks lists h es xs)
+    entered_keeps (length xs) more (begun 0 es xs (start settings chunks lists)).looper (runs_begun settings chunks lists h es xs)
 
 -- new loops may begin a run
 new_lists : (loops : ℕ) → AreLists (replicate loops default_strip) []
