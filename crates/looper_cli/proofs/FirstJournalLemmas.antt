@@ -12,8 +12,9 @@ use Rattle.std.proofs.lemmas.Option.{same_Some, none-some}
 use Rattle.looper_cli.specs.FirstJournal.{hit_line, hit_lines, end_line, AreHits, IsFirstJournal}
 use Rattle.looper_cli.specs.FirstReading.{hit_tail, LacksSpace, IsCutAtSpace, BeginsWithHit}
 use Rattle.looper_cli.specs.declared.first_journal.TheConstants.{GREATEST_FRAME}
-use Rattle.looper_cli.specs.Numerals.{IsNumeralOf}
-use Rattle.looper_cli.proofs.NumeralLemmas.{own}
+use Rattle.text_lines.specs.Numerals.{IsNumeralOf}
+use Rattle.text_lines.proofs.NumeralLemmas.{own}
+use Rattle.text_lines.proofs.IntegerLemmas.{numeral_is_one}
 
 -- a hit's line behind its first space, and then what follows
 abbrev after_space : ℕ → List ℕ → List ℕ
@@ -71,17 +72,21 @@ tail_then seq behind = ap (λ t. 32 ∷ 48 ∷ 32 ∷ t) (append_assoc (decimal 
 pub before_space : (frame : ℕ) → frame ≤ GREATEST_FRAME → LacksSpace (decimal frame)
 before_space frame within = digits_lack_space (decimal frame) (digits_decimal own frame (frame_fits frame within))
 
+-- a frame has few digits
+frame_is_short : (frame : ℕ) → frame ≤ GREATEST_FRAME → frame < 10 ^ 19
+frame_is_short frame within = omega arith
+
 -- the parts of a hit's line at its first space
 pub parts_of_hit :
     (lines front rest : List ℕ) → IsCutAtSpace lines front rest → (frame seq : ℕ) (behind : List ℕ) → BeginsWithHit lines seq frame behind →
     IsNumeralOf front frame × (rest ≡ hit_tail seq ++ behind)
 parts_of_hit lines front rest cut frame seq behind hit =
     let parts = cut.only (decimal frame) (after_space seq behind) (before_space frame hit.within) hit.spelled
-    in (record { within = frame_fits frame hit.within; spelled = parts.0 }, parts.1 ∙ sym (tail_then seq behind))
+    in (record { within = frame_is_short frame hit.within; spelled = parts.0 }, parts.1 ∙ sym (tail_then seq behind))
 
 -- one text spells one number
 pub same_number : (bytes : List ℕ) (m n : ℕ) → IsNumeralOf bytes m → IsNumeralOf bytes n → m ≡ n
-same_number bytes m n first second = decimal_injective m n first.within second.within (sym first.spelled ∙ second.spelled)
+same_number = numeral_is_one
 
 -- lines begin with at most one hit
 same_hit : (lines xs ys : List ℕ) (seq f g : ℕ) → BeginsWithHit lines seq f xs → BeginsWithHit lines seq g ys → (f ≡ g) × (xs ≡ ys)

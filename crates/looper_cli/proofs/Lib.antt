@@ -1,5 +1,4 @@
 pub mod FirstJournalLemmas
-pub mod NumeralLemmas
 pub mod SingleLoopLemmas
 pub mod OneRunLemmas
 pub mod WordsLemmas

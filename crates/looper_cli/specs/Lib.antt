@@ -1,6 +1,5 @@
 pub mod Words
 pub mod Named
-pub mod Numerals
 pub mod FirstJournal
 pub mod FirstReading
 pub mod SingleLoops

@@ -6,9 +6,9 @@ ghost use Rattle.std.specs.Fmt.{decimal};
 ghost use Rattle.looper_cli.specs.FirstJournal.{hit_line, hit_lines, end_line, AreHits, IsFirstJournal};
 ghost use Rattle.looper_cli.specs.FirstReading.{hit_tail, LacksSpace, IsCutAtSpace, BeginsWithHit, GoesOn};
 
-use crate::numeral::read_numeral;
 use arrayvec::ArrayVec;
 use std::marker::Model;
+use text_lines::read_numeral;
 
 /// The last frame before which a hit may act.
 pub const GREATEST_FRAME: u64 = 1099511627776;

@@ -15,7 +15,6 @@
 mod console;
 mod files;
 mod first_journal;
-mod numeral;
 mod one_run;
 mod render;
 mod single_loop;

@@ -44,9 +44,9 @@ no_header_read form bytes first rest cut apart = no_header first rest cut.first 
 -- the next line is wrong
 pub wrong_read :
     {A : Type 0} (form : TextForm A) (bytes : List ℕ) (items : List A) (rest line behind : List ℕ) (kind : TextKind)
-    → IsReadUpTo form bytes items rest → IsCutAt 10 rest line behind → form.Wrong items line kind → FirstFault form bytes (length items + 2) kind
-wrong_read form bytes items rest line behind kind read cut bad =
-    wrong_line items line behind read.follow (read.spelled ∙ ap (λ (r : List ℕ). text_then form.header form.spell items r) cut.whole) cut.first bad refl
+    → IsReadUpTo form bytes items rest → IsCutAt 10 rest line behind → (form.Due items → line ≢ end_word) → form.Wrong items line kind → FirstFault form bytes (length items + 2) kind
+wrong_read form bytes items rest line behind kind read cut apart bad =
+    wrong_line items line behind read.follow (read.spelled ∙ ap (λ (r : List ℕ). text_then form.header form.spell items r) cut.whole) cut.first apart bad refl
 
 -- no line is left
 pub none_read : {A : Type 0} (form : TextForm A) (bytes : List ℕ) (items : List A) (rest : List ℕ) → IsReadUpTo form bytes items rest → Lacks 10 rest → FirstFault form bytes (length items + 2) Ending

@@ -29,7 +29,7 @@ pub data Stop : Type 0 where
   stopped : ℕ → TextKind → Stop
 
 pub data StopsAt {A : Type 0} (form : TextForm A) (items : List A) (tail : List ℕ) (stop : Stop) : Type 0 where
-  at_wrong : (wrong rest : List ℕ) (kind : TextKind) → tail ≡ wrong ++ (10 ∷ rest) → Lacks 10 wrong → form.Wrong items wrong kind → stop ≡ stopped (length items + 2) kind → StopsAt form items tail stop
+  at_wrong : (wrong rest : List ℕ) (kind : TextKind) → tail ≡ wrong ++ (10 ∷ rest) → Lacks 10 wrong → (form.Due items → wrong ≢ end_word) → form.Wrong items wrong kind → stop ≡ stopped (length items + 2) kind → StopsAt form items tail stop
   at_none : Lacks 10 tail → stop ≡ stopped (length items + 2) Ending → StopsAt form items tail stop
   at_more : (rest : List ℕ) → tail ≡ end_word ++ (10 ∷ rest) → form.Due items → rest ≢ [] → stop ≡ stopped (length items + 3) Ending → StopsAt form items tail stop
   at_end : tail ≡ end_word ++ (10 ∷ []) → form.Due items → stop ≡ ended → StopsAt form items tail stop
@@ -46,29 +46,25 @@ lines_agree tail front rest other behind is is_too lacks lacks_too = cut_is_one 
 has_line : (tail front rest : List ℕ) → tail ≡ front ++ (10 ∷ rest) → ¬ Lacks 10 tail
 has_line tail front rest is lacks = there 10 front rest (subst (λ bs. Lacks 10 bs) is lacks)
 
--- where `end` is due, a line that is wrong isn't `end`
-wrong_is_not_end : {A : Type 0} (form : TextForm A) → IsSettled form → (items : List A) (wrong : List ℕ) (kind : TextKind) → form.Wrong items wrong kind → form.Due items → wrong ≢ end_word
-wrong_is_not_end form settled items wrong kind is due same = settled.end_good items kind due (subst (λ l. form.Wrong items l kind) same is)
-
 -- a line that is wrong, seen twice
 twice_wrong :
     {A : Type 0} (form : TextForm A) → IsSettled form → (items : List A) (tail wrong rest : List ℕ) (kind : TextKind) (stop other : Stop)
-    → tail ≡ wrong ++ (10 ∷ rest) → Lacks 10 wrong → form.Wrong items wrong kind → stop ≡ stopped (length items + 2) kind → StopsAt form items tail other → stop ≡ other
-twice_wrong form settled items tail wrong rest kind stop other is lacks bad stops (at_wrong line behind kind_too is_too lacks_too bad_too stops_too) =
+    → tail ≡ wrong ++ (10 ∷ rest) → Lacks 10 wrong → (form.Due items → wrong ≢ end_word) → form.Wrong items wrong kind → stop ≡ stopped (length items + 2) kind → StopsAt form items tail other → stop ≡ other
+twice_wrong form settled items tail wrong rest kind stop other is lacks apart bad stops (at_wrong line behind kind_too is_too lacks_too apart_too bad_too stops_too) =
     let same = (lines_agree tail wrong rest line behind is is_too lacks lacks_too).0 in
     let one = settled.one_kind items wrong kind kind_too bad (subst (λ l. form.Wrong items l kind_too) (sym same) bad_too) in
     stops ∙ ap (stopped (length items + 2)) one ∙ sym stops_too
-twice_wrong form settled items tail wrong rest kind stop other is lacks bad stops (at_none none stops_too) = absurd (has_line tail wrong rest is none)
-twice_wrong form settled items tail wrong rest kind stop other is lacks bad stops (at_more behind is_too due some stops_too) =
-    absurd (wrong_is_not_end form settled items wrong kind bad due (lines_agree tail wrong rest end_word behind is is_too lacks end_is_whole).0)
-twice_wrong form settled items tail wrong rest kind stop other is lacks bad stops (at_end is_too due stops_too) =
-    absurd (wrong_is_not_end form settled items wrong kind bad due (lines_agree tail wrong rest end_word [] is is_too lacks end_is_whole).0)
+twice_wrong form settled items tail wrong rest kind stop other is lacks apart bad stops (at_none none stops_too) = absurd (has_line tail wrong rest is none)
+twice_wrong form settled items tail wrong rest kind stop other is lacks apart bad stops (at_more behind is_too due some stops_too) =
+    absurd (apart due (lines_agree tail wrong rest end_word behind is is_too lacks end_is_whole).0)
+twice_wrong form settled items tail wrong rest kind stop other is lacks apart bad stops (at_end is_too due stops_too) =
+    absurd (apart due (lines_agree tail wrong rest end_word [] is is_too lacks end_is_whole).0)
 
 -- no whole line, seen twice
 twice_none :
     {A : Type 0} (form : TextForm A) (items : List A) (tail : List ℕ) (stop other : Stop)
     → Lacks 10 tail → stop ≡ stopped (length items + 2) Ending → StopsAt form items tail other → stop ≡ other
-twice_none form items tail stop other none stops (at_wrong line behind kind is lacks bad stops_too) = absurd (has_line tail line behind is none)
+twice_none form items tail stop other none stops (at_wrong line behind kind is lacks apart bad stops_too) = absurd (has_line tail line behind is none)
 twice_none form items tail stop other none stops (at_none none_too stops_too) = stops ∙ sym stops_too
 twice_none form items tail stop other none stops (at_more behind is due some stops_too) = absurd (has_line tail end_word behind is none)
 twice_none form items tail stop other none stops (at_end is due stops_too) = absurd (has_line tail end_word [] is none)
@@ -77,8 +73,8 @@ twice_none form items tail stop other none stops (at_end is due stops_too) = abs
 twice_more :
     {A : Type 0} (form : TextForm A) → IsSettled form → (items : List A) (tail rest : List ℕ) (stop other : Stop)
     → tail ≡ end_word ++ (10 ∷ rest) → form.Due items → rest ≢ [] → stop ≡ stopped (length items + 3) Ending → StopsAt form items tail other → stop ≡ other
-twice_more form settled items tail rest stop other is due some stops (at_wrong line behind kind is_too lacks bad stops_too) =
-    absurd (wrong_is_not_end form settled items line kind bad due (lines_agree tail line behind end_word rest is_too is lacks end_is_whole).0)
+twice_more form settled items tail rest stop other is due some stops (at_wrong line behind kind is_too lacks apart bad stops_too) =
+    absurd (apart due (lines_agree tail line behind end_word rest is_too is lacks end_is_whole).0)
 twice_more form settled items tail rest stop other is due some stops (at_none none stops_too) = absurd (has_line tail end_word rest is none)
 twice_more form settled items tail rest stop other is due some stops (at_more behind is_too due_too some_too stops_too) = stops ∙ sym stops_too
 twice_more form settled items tail rest stop other is due some stops (at_end is_too due_too stops_too) =
@@ -88,8 +84,8 @@ twice_more form settled items tail rest stop other is due some stops (at_end is_
 twice_end :
     {A : Type 0} (form : TextForm A) → IsSettled form → (items : List A) (tail : List ℕ) (stop other : Stop)
     → tail ≡ end_word ++ (10 ∷ []) → form.Due items → stop ≡ ended → StopsAt form items tail other → stop ≡ other
-twice_end form settled items tail stop other is due stops (at_wrong line behind kind is_too lacks bad stops_too) =
-    absurd (wrong_is_not_end form settled items line kind bad due (lines_agree tail line behind end_word [] is_too is lacks end_is_whole).0)
+twice_end form settled items tail stop other is due stops (at_wrong line behind kind is_too lacks apart bad stops_too) =
+    absurd (apart due (lines_agree tail line behind end_word [] is_too is lacks end_is_whole).0)
 twice_end form settled items tail stop other is due stops (at_none none stops_too) = absurd (has_line tail end_word [] is none)
 twice_end form settled items tail stop other is due stops (at_more behind is_too due_too some stops_too) =
     absurd (some (lines_agree tail end_word behind end_word [] is_too is end_is_whole end_is_whole).1)
@@ -97,14 +93,14 @@ twice_end form settled items tail stop other is due stops (at_end is_too due_too
 
 -- reading stops behind the same lines in one way
 stop_is_one : {A : Type 0} (form : TextForm A) → IsSettled form → (items : List A) (tail : List ℕ) (stop other : Stop) → StopsAt form items tail stop → StopsAt form items tail other → stop ≡ other
-stop_is_one form settled items tail stop other (at_wrong wrong rest kind is lacks bad stops) too = twice_wrong form settled items tail wrong rest kind stop other is lacks bad stops too
+stop_is_one form settled items tail stop other (at_wrong wrong rest kind is lacks apart bad stops) too = twice_wrong form settled items tail wrong rest kind stop other is lacks apart bad stops too
 stop_is_one form settled items tail stop other (at_none none stops) too = twice_none form items tail stop other none stops too
 stop_is_one form settled items tail stop other (at_more rest is due some stops) too = twice_more form settled items tail rest stop other is due some stops too
 stop_is_one form settled items tail stop other (at_end is due stops) too = twice_end form settled items tail stop other is due stops too
 
 -- reading doesn't stop before a line that may follow
 goes_on : {A : Type 0} (form : TextForm A) → IsSettled form → (items : List A) (a : A) (tail rest : List ℕ) (stop : Stop) → form.Next items a → tail ≡ form.spell a ++ (10 ∷ rest) → ¬ StopsAt form items tail stop
-goes_on form settled items a tail rest stop next is (at_wrong wrong behind kind is_too lacks bad stops) =
+goes_on form settled items a tail rest stop next is (at_wrong wrong behind kind is_too lacks apart bad stops) =
     let same = (lines_agree tail wrong behind (form.spell a) rest is_too is lacks (settled.whole items a next)).0 in
     settled.good items a kind next (subst (λ l. form.Wrong items l kind) same bad)
 goes_on form settled items a tail rest stop next is (at_none none stops) = has_line tail (form.spell a) rest is none
@@ -163,14 +159,14 @@ pub fault_stops : {A : Type 0} (form : TextForm A) → IsSettled form → (bytes
 fault_stops form settled bytes lines line kind has (no_line lacks at is) = absurd (has_line bytes form.header lines has lacks)
 fault_stops form settled bytes lines line kind has (no_header first rest lacks cut apart at is) =
     absurd (apart (behind_header form.header first rest lines bytes settled.whole_header lacks cut has).0)
-fault_stops form settled bytes lines line kind has (wrong_line items wrong rest follow spelled lacks bad at) =
+fault_stops form settled bytes lines line kind has (wrong_line items wrong rest follow spelled lacks apart bad at) =
     record {
       items = items;
       stretch = record {
         tail = wrong ++ (10 ∷ rest);
         follow = follow;
         spelled = (lines_agree bytes form.header lines form.header (lines_then form.spell items (wrong ++ (10 ∷ rest))) has spelled settled.whole_header settled.whole_header).1;
-        stops = at_wrong wrong rest kind refl lacks bad (stopped_is line (length items + 2) kind kind at refl);
+        stops = at_wrong wrong rest kind refl lacks apart bad (stopped_is line (length items + 2) kind kind at refl);
       };
     }
 fault_stops form settled bytes lines line kind has (no_end items rest follow spelled lacks at is) =
@@ -231,7 +227,7 @@ headed_fault_is_one form settled bytes lines line other kind kind_too has fault 
 none_is_one : {A : Type 0} (form : TextForm A) (bytes : List ℕ) (line : ℕ) (kind : TextKind) → Lacks 10 bytes → FirstFault form bytes line kind → (line ≡ 1) × (kind ≡ Ending)
 none_is_one form bytes line kind lacks (no_line lacks_too at is) = (at, is)
 none_is_one form bytes line kind lacks (no_header first rest whole cut apart at is) = absurd (has_line bytes first rest cut lacks)
-none_is_one form bytes line kind lacks (wrong_line items wrong rest follow spelled whole bad at) = absurd (has_line bytes form.header _ spelled lacks)
+none_is_one form bytes line kind lacks (wrong_line items wrong rest follow spelled whole not_end bad at) = absurd (has_line bytes form.header _ spelled lacks)
 none_is_one form bytes line kind lacks (no_end items rest follow spelled whole at is) = absurd (has_line bytes form.header _ spelled lacks)
 none_is_one form bytes line kind lacks (behind_end items rest follow spelled due some at is) = absurd (has_line bytes form.header _ spelled lacks)
 
@@ -239,7 +235,7 @@ none_is_one form bytes line kind lacks (behind_end items rest follow spelled due
 unheaded_is_one : {A : Type 0} (form : TextForm A) → IsSettled form → (bytes first rest : List ℕ) (line : ℕ) (kind : TextKind) → Lacks 10 first → bytes ≡ first ++ (10 ∷ rest) → first ≢ form.header → FirstFault form bytes line kind → (line ≡ 1) × (kind ≡ Header)
 unheaded_is_one form settled bytes first rest line kind lacks cut apart (no_line lacks_too at is) = absurd (has_line bytes first rest cut lacks_too)
 unheaded_is_one form settled bytes first rest line kind lacks cut apart (no_header other behind whole cut_too apart_too at is) = (at, is)
-unheaded_is_one form settled bytes first rest line kind lacks cut apart (wrong_line items wrong behind follow spelled whole bad at) =
+unheaded_is_one form settled bytes first rest line kind lacks cut apart (wrong_line items wrong behind follow spelled whole not_end bad at) =
     absurd (apart (behind_header form.header first rest _ bytes settled.whole_header lacks cut spelled).0)
 unheaded_is_one form settled bytes first rest line kind lacks cut apart (no_end items behind follow spelled whole at is) =
     absurd (apart (behind_header form.header first rest _ bytes settled.whole_header lacks cut spelled).0)
@@ -252,8 +248,8 @@ fault_is_one form settled bytes line other kind kind_too (no_line lacks at is) t
     let same = none_is_one form bytes other kind_too lacks too in (at ∙ sym same.0, is ∙ sym same.1)
 fault_is_one form settled bytes line other kind kind_too (no_header first rest lacks cut apart at is) too =
     let same = unheaded_is_one form settled bytes first rest other kind_too lacks cut apart too in (at ∙ sym same.0, is ∙ sym same.1)
-fault_is_one form settled bytes line other kind kind_too (wrong_line items wrong rest follow spelled lacks bad at) too =
-    headed_fault_is_one form settled bytes _ line other kind kind_too spelled (wrong_line items wrong rest follow spelled lacks bad at) too
+fault_is_one form settled bytes line other kind kind_too (wrong_line items wrong rest follow spelled lacks apart bad at) too =
+    headed_fault_is_one form settled bytes _ line other kind kind_too spelled (wrong_line items wrong rest follow spelled lacks apart bad at) too
 fault_is_one form settled bytes line other kind kind_too (no_end items rest follow spelled lacks at is) too =
     headed_fault_is_one form settled bytes _ line other kind kind_too spelled (no_end items rest follow spelled lacks at is) too
 fault_is_one form settled bytes line other kind kind_too (behind_end items rest follow spelled due some at is) too =

@@ -35,22 +35,21 @@ pub data FirstFault {A : Type 0} (form : TextForm A) (bytes : List ℕ) (line : 
   no_line : Lacks 10 bytes → line ≡ 1 → kind ≡ Ending → FirstFault form bytes line kind
   -- the first line isn't the header
   no_header : (first rest : List ℕ) → Lacks 10 first → bytes ≡ first ++ (10 ∷ rest) → first ≢ form.header → line ≡ 1 → kind ≡ Header → FirstFault form bytes line kind
-  -- a whole line is wrong, and all before it are good
-  wrong_line : (items : List A) (wrong rest : List ℕ) → MayAllFollow form [] items → bytes ≡ text_then form.header form.spell items (wrong ++ (10 ∷ rest)) → Lacks 10 wrong → form.Wrong items wrong kind → line ≡ length items + 2 → FirstFault form bytes line kind
+  -- a whole line is wrong, and all before it are good; it isn't `end` where that is due
+  wrong_line : (items : List A) (wrong rest : List ℕ) → MayAllFollow form [] items → bytes ≡ text_then form.header form.spell items (wrong ++ (10 ∷ rest)) → Lacks 10 wrong → (form.Due items → wrong ≢ end_word) → form.Wrong items wrong kind → line ≡ length items + 2 → FirstFault form bytes line kind
   -- all whole lines are good, and `end` isn't among them
   no_end : (items : List A) (rest : List ℕ) → MayAllFollow form [] items → bytes ≡ text_then form.header form.spell items rest → Lacks 10 rest → line ≡ length items + 2 → kind ≡ Ending → FirstFault form bytes line kind
   -- something follows `end`
   behind_end : (items : List A) (rest : List ℕ) → MayAllFollow form [] items → bytes ≡ text_then form.header form.spell items (end_word ++ (10 ∷ rest)) → form.Due items → rest ≢ [] → line ≡ length items + 3 → kind ≡ Ending → FirstFault form bytes line kind
 
--- a form is settled where each line that may follow is whole, isn't `end`, and is spelled by one thing alone, where no
--- line that may follow is wrong, nor `end` where it is due, and where a wrong line has one kind of fault
+-- a form is settled where each line that may follow is whole, isn't `end`, isn't wrong, and is spelled by one thing
+-- alone, and where a wrong line has one kind of fault
 pub record IsSettled {A : Type 0} (form : TextForm A) : Type 0 where
   pub whole_header : Lacks 10 form.header
   pub whole : (items : List A) (a : A) → form.Next items a → Lacks 10 (form.spell a)
   pub not_end : (items : List A) (a : A) → form.Next items a → form.spell a ≢ end_word
   pub one : (items : List A) (a b : A) → form.Next items a → form.Next items b → form.spell a ≡ form.spell b → a ≡ b
   pub good : (items : List A) (a : A) (kind : TextKind) → form.Next items a → ¬ form.Wrong items (form.spell a) kind
-  pub end_good : (items : List A) (kind : TextKind) → form.Due items → ¬ form.Wrong items end_word kind
   pub one_kind : (items : List A) (line : List ℕ) (kind other : TextKind) → form.Wrong items line kind → form.Wrong items line other → kind ≡ other
 
 -- these were read from the front of the bytes, and the rest is left
