@@ -1,0 +1,4 @@
+pub mod Pieces
+pub mod Splitting
+pub mod OneMore
+pub mod Inside

@@ -1,0 +1,159 @@
+//! Pieces in a vector: one address more.
+
+ghost use Rattle.std.specs.Prelude.{◌≡◌, ◌≤◌, ◌<◌, ◌+◌, ◌++◌, ◌^◌, drop, length, take};
+ghost use Rattle.std.specs.Vec.{vec_capacity, vec_len};
+ghost use Rattle.pieces.specs.OneMore.{inserted, joined, joined_before, overwritten, overwritten_backward};
+ghost use Rattle.pieces.specs.Pieces.{Solid, total as total_of};
+ghost use Rattle.pieces.specs.Splitting.{IsHint, before, behind};
+
+use crate::edit::{put, split_vec};
+use crate::find::{Hint, find_from};
+use crate::piece::Piece;
+
+/// Takes the first address of a piece out.
+#[tactic(auto, using(crate::proofs::OneMoreLemmas::shortens))]
+fn shorten(pieces: &mut Vec<Piece>, index: usize)
+    requires index { index < length pieces.old.items }
+    requires solid { Solid (drop index pieces.old.items) }
+    ensures items { pieces.new.items ≡ take index pieces.old.items ++ behind 1 (drop index pieces.old.items) }
+    ensures capacity { vec_capacity pieces.old ≤ vec_capacity pieces.new }
+    ensures shorter { vec_len pieces.new ≤ vec_len pieces.old }
+{
+    let piece = pieces[index];
+    if piece.len() == 1 {
+        let _ = pieces.remove(index);
+    } else {
+        pieces[index] = piece.back(1);
+    }
+}
+
+/// Takes the address at a place out, and gives the number of pieces before it. The last address of a piece is taken with
+/// no move of the pieces behind it.
+#[tactic(auto, using(crate::proofs::SplittingLemmas::splits, crate::proofs::OneMoreLemmas::overs))]
+fn take_out(pieces: &mut Vec<Piece>, hint: Hint, place: u32) -> usize
+    requires hint { IsHint pieces.old.items hint.piece hint.begin }
+    requires place { place < total_of pieces.old.items }
+    requires solid { Solid pieces.old.items }
+    requires room { vec_len pieces.old < vec_capacity pieces.old }
+    ensures items { pieces.new.items ≡ before place pieces.old.items ++ behind 1 (behind place pieces.old.items) }
+    ensures index { result ≡ length (before place pieces.old.items) }
+    ensures longer { vec_len pieces.new ≤ vec_len pieces.old + 1 }
+    ensures capacity { vec_capacity pieces.old ≤ vec_capacity pieces.new }
+{
+    let spot = find_from(pieces, hint, place);
+    let into = place - spot.begin;
+    let piece = pieces[spot.piece];
+    if into > 0 && into == piece.len() - 1 {
+        pieces[spot.piece] = piece.front(into);
+        return spot.piece + 1;
+    }
+    let index = split_vec(pieces, spot, place);
+    shorten(pieces, index);
+    index
+}
+
+/// Puts an address behind the first pieces, and gives the number of pieces up to it.
+#[tactic(auto, using(crate::proofs::OneMoreLemmas::joins))]
+fn join(pieces: &mut Vec<Piece>, index: usize, address: u32) -> usize
+    requires index { index ≤ length pieces.old.items }
+    requires room { vec_len pieces.old < vec_capacity pieces.old }
+    requires short { total_of pieces.old.items + 1 < 2 ^ 32 }
+    ensures items { pieces.new.items ≡ joined address (take index pieces.old.items) ++ drop index pieces.old.items }
+    ensures index { result ≡ length (joined address (take index pieces.old.items)) }
+    ensures capacity { vec_capacity pieces.old ≤ vec_capacity pieces.new }
+{
+    if index > 0 {
+        let last = pieces[index - 1];
+        if last.grows(address) {
+            pieces[index - 1] = last.grown();
+            return index;
+        }
+    }
+    put(pieces, index, Piece::one(address));
+    index + 1
+}
+
+/// Puts an address before the pieces from an index on.
+#[tactic(auto, using(crate::proofs::BackwardLemmas::joins))]
+fn join_before(pieces: &mut Vec<Piece>, index: usize, address: u32)
+    requires index { index ≤ length pieces.old.items }
+    requires room { vec_len pieces.old < vec_capacity pieces.old }
+    requires short { total_of pieces.old.items + 1 < 2 ^ 32 }
+    ensures items { pieces.new.items ≡ take index pieces.old.items ++ joined_before address (drop index pieces.old.items) }
+    ensures capacity { vec_capacity pieces.old ≤ vec_capacity pieces.new }
+{
+    if index < pieces.len() {
+        let next = pieces[index];
+        if next.grows_down(address) {
+            pieces[index] = next.grown_down();
+            return;
+        }
+    }
+    put(pieces, index, Piece::one(address));
+}
+
+/// Puts an address in place of that at a place, and gives the number of pieces up to it.
+#[tactic(auto, using(crate::proofs::SplittingLemmas::splits, crate::proofs::OneMoreLemmas::overs))]
+pub(crate) fn overwrite_vec(pieces: &mut Vec<Piece>, hint: Hint, place: u32, address: u32) -> usize
+    requires hint { IsHint pieces.old.items hint.piece hint.begin }
+    requires place { place < total_of pieces.old.items }
+    requires short { total_of pieces.old.items < 2 ^ 32 }
+    requires solid { Solid pieces.old.items }
+    requires room { vec_len pieces.old + 2 < vec_capacity pieces.old }
+    ensures items { pieces.new.items ≡ overwritten place address pieces.old.items }
+    ensures index { result ≡ length (joined address (before place pieces.old.items)) }
+    ensures capacity { vec_capacity pieces.old ≤ vec_capacity pieces.new }
+{
+    let index = take_out(pieces, hint, place);
+    join(pieces, index, address)
+}
+
+/// Puts an address in place of that at a place, backward, and gives the number of pieces before it.
+#[tactic(auto, using(crate::proofs::SplittingLemmas::splits, crate::proofs::BackwardLemmas::steps))]
+pub(crate) fn overwrite_vec_backward(
+    pieces: &mut Vec<Piece>,
+    hint: Hint,
+    place: u32,
+    address: u32,
+) -> usize
+    requires hint { IsHint pieces.old.items hint.piece hint.begin }
+    requires place { place < total_of pieces.old.items }
+    requires short { total_of pieces.old.items < 2 ^ 32 }
+    requires solid { Solid pieces.old.items }
+    requires room { vec_len pieces.old + 2 < vec_capacity pieces.old }
+    ensures items { pieces.new.items ≡ overwritten_backward place address pieces.old.items }
+    ensures index { result ≡ length (before place pieces.old.items) }
+    ensures capacity { vec_capacity pieces.old ≤ vec_capacity pieces.new }
+{
+    let index = take_out(pieces, hint, place);
+    join_before(pieces, index, address);
+    index
+}
+
+/// Puts an address before that at a place, and gives the number of pieces up to it.
+#[tactic(auto, using(crate::proofs::SplittingLemmas::splits, crate::proofs::OneMoreLemmas::overs))]
+pub(crate) fn insert_vec(pieces: &mut Vec<Piece>, hint: Hint, place: u32, address: u32) -> usize
+    requires hint { IsHint pieces.old.items hint.piece hint.begin }
+    requires place { place ≤ total_of pieces.old.items }
+    requires short { total_of pieces.old.items + 1 < 2 ^ 32 }
+    requires room { vec_len pieces.old + 2 < vec_capacity pieces.old }
+    ensures items { pieces.new.items ≡ inserted place address pieces.old.items }
+    ensures index { result ≡ length (joined address (before place pieces.old.items)) }
+    ensures capacity { vec_capacity pieces.old ≤ vec_capacity pieces.new }
+{
+    let index = split_vec(pieces, hint, place);
+    join(pieces, index, address)
+}
+
+/// Puts an address behind all others, and gives the number of pieces.
+#[tactic(auto, using(crate::proofs::OneMoreLemmas::overs))]
+pub(crate) fn append_vec(pieces: &mut Vec<Piece>, address: u32) -> usize
+    requires short { total_of pieces.old.items + 1 < 2 ^ 32 }
+    requires room { vec_len pieces.old + 2 < vec_capacity pieces.old }
+    ensures items { pieces.new.items ≡ joined address pieces.old.items }
+    ensures index { result ≡ length (joined address pieces.old.items) }
+    ensures capacity { vec_capacity pieces.old ≤ vec_capacity pieces.new }
+{
+    let index = pieces.len();
+    join(pieces, index, address)
+}
