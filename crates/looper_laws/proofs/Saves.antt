@@ -3,3 +3,6 @@ pub mod Entries
 pub mod Numbers
 pub mod Loops
 pub mod Pins
+pub mod Releases
+pub mod Holds
+pub mod Owners

@@ -4,6 +4,7 @@
 //! - `cut_runs`: a run may be cut into two at any frame and at any entry.
 //! - `replies`: one frame comes out for each that goes in, and replies answer gets and saves.
 //! - `saved_lists`: a save has the lists at its entry's place, whatever follows.
+//! - `standing_pins`: the pins that stand are those of the saves that no release has answered.
 //! - `reached`: what always holds of every loop and looper that a run reaches, and what each step keeps of it.
 //! - `other_layers`: nothing changes a layer but the current one.
 //! - `undoing`: undo and redo give back what stood before.
@@ -21,6 +22,7 @@ mod reached;
 mod replies;
 mod saved_lists;
 mod shared_room;
+mod standing_pins;
 mod undoing;
 
 pub use cut_runs::{
@@ -51,6 +53,10 @@ pub use saved_lists::{
 pub use shared_room::{
     a_reached_looper_shares_its_chunks, the_room_that_passes_on_is_what_the_others_leave,
     what_is_done_to_a_loop_stays_in_reach,
+};
+pub use standing_pins::{
+    a_frame_leaves_all_holds, a_release_takes_the_pins_that_it_names,
+    standing_pins_are_of_unanswered_saves,
 };
 pub use undoing::{
     a_writing_verb_opens_a_loop, redo_gives_back_the_layer_that_undo_moved,

@@ -24,6 +24,7 @@ pub mod TrackSpans
 pub mod Run
 pub mod Cuts
 pub mod Pins
+pub mod Unanswered
 pub mod States
 pub mod Reached
 pub mod Sharing

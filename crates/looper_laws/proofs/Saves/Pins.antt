@@ -22,7 +22,7 @@ use Rattle.looper_laws.proofs.Saves.Loops.{pin_in, given_pin, pressed_pin, relea
 use Rattle.looper_laws.proofs.Saves.Entries.{taken_some, taken_if_some, unrefused_if_some}
 
 -- something done to loops that leaves their pins
-abbrev LeavesPins : (ℕ → Loop Sound → Loop Sound) → Type 0
+abbrev pub LeavesPins : (ℕ → Loop Sound → Loop Sound) → Type 0
 LeavesPins act = (reach : ℕ) (l : Loop Sound) → pin_in (act reach l) ≡ pin_in l
 
 at_index-pins : (k : ℕ) (act : ℕ → Loop Sound → Loop Sound) (free : ℕ) (ts : List Track) → LeavesPins act →
@@ -43,7 +43,7 @@ at_target-pins All selected act free ts leaves = swept-pins act ts free leaves
 at_target-pins Selected selected act free ts leaves = at_index-pins selected act free ts leaves
 
 -- a frame leaves all pins
-boundary-pin : (meets : Bool) (reach : ℕ) (l : Loop Sound) →
+pub boundary-pin : (meets : Bool) (reach : ℕ) (l : Loop Sound) →
     pin_in (if meets then waiting_acts reach l else l) ≡ pin_in l
 boundary-pin true reach l = waiting_acts_pin reach l
 boundary-pin false reach l = refl

@@ -1,0 +1,48 @@
+//! The pins that stand are those of the saves that no release has answered.
+
+ghost use Rattle.std.specs.Prelude.{◌≡◌, ℕ, IsTrue, List, [], map, slice_get, option_map, if◌then◌else◌};
+ghost use Rattle.sl_base.specs.Sounds.{Sound};
+ghost use Rattle.sl_commands.specs.declared.Target.{Target};
+ghost use Rattle.sl_commands.specs.declared.Command.TheVariants.{Release};
+ghost use Rattle.sl_commands.specs.declared.Entry.{Entry};
+ghost use Rattle.sl_commands.specs.Settings.{LooperSettings};
+ghost use Rattle.looper_rules.specs.Looper.{Track, Looper};
+ghost use Rattle.looper_rules.specs.Saves.{Save, freed};
+ghost use Rattle.looper_rules.specs.Entries.{is_taken, applied};
+ghost use Rattle.looper_rules.specs.Frame.{at_boundaries, framed_from, framed};
+ghost use Rattle.looper_rules.specs.Run.{entered, begun, run, start};
+ghost use Rattle.looper_rules.specs.Pins.{names_pin};
+ghost use Rattle.looper_rules.specs.Unanswered.{unanswered_after, unanswered_entered, unanswered_begun, unanswered, holds_of, HoldPins};
+ghost use Rattle.looper_rules.specs.Reached.{KeepsLooper, IsBeginning};
+
+/// A valid release takes away the pins that it names and no others, and changes nothing else of any track.
+pub fn a_release_takes_the_pins_that_it_names()
+    ensures { (frame : ℕ) → (e : Entry) → (l : Looper) → (target : Target) → (outcome index : ℕ) →
+        e.command ≡ Release target outcome → IsTrue (is_taken e l) →
+        slice_get (applied frame e l).tracks index
+        ≡ option_map (λ (t : Track). if names_pin target index t.asker then freed t else t) (slice_get l.tracks index) }
+{}
+
+/// The pins that stand are those of the unanswered saves, each holding the list that its save has. Entries and frames keep
+/// it so: a save adds its pins, a release takes away those of the save that it answers.
+pub fn standing_pins_are_of_unanswered_saves()
+    ensures entry { (frame : ℕ) → (e : Entry) → (l : Looper) → (saves : List Save) → KeepsLooper frame l →
+        HoldPins saves (holds_of l) → HoldPins (unanswered_after e l saves) (holds_of (applied frame e l)) }
+    ensures entered { (frame : ℕ) → (es : List Entry) → (l : Looper) → (saves : List Save) → KeepsLooper frame l →
+        HoldPins saves (holds_of l) → HoldPins (unanswered_entered frame es l saves) (holds_of (entered frame es l).looper) }
+    ensures begun { (frame : ℕ) → (es : List Entry) → (xs : List Sound) → (l : Looper) → (saves : List Save) → KeepsLooper frame l →
+        HoldPins saves (holds_of l) → HoldPins (unanswered_begun frame es xs l saves) (holds_of (begun frame es xs l).looper) }
+
+    // Of a whole run, from its start on.
+    ensures start { (s : LooperSettings) → (chunks : ℕ) → (lists : List (List Sound)) → HoldPins [] (holds_of (start s chunks lists)) }
+    ensures run { (s : LooperSettings) → (chunks : ℕ) → (lists : List (List Sound)) → (es : List Entry) → (input : List Sound) →
+        IsBeginning s chunks lists →
+        HoldPins (unanswered es input (start s chunks lists)) (holds_of (run es input (start s chunks lists)).looper) }
+{}
+
+/// A frame changes nothing of what holds lists, nor does either half of it.
+pub fn a_frame_leaves_all_holds()
+    ensures whole { (frame : ℕ) → (x : Sound) → (l : Looper) → holds_of (framed frame x l).looper ≡ holds_of l }
+    ensures boundaries { (frame : ℕ) → (l : Looper) → holds_of (at_boundaries frame l) ≡ holds_of l }
+    ensures behind { (x : Sound) → (l : Looper) → holds_of (framed_from x l).looper ≡ holds_of l }
+{}
