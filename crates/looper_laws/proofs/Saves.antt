@@ -6,3 +6,5 @@ pub mod Pins
 pub mod Releases
 pub mod Holds
 pub mod Owners
+pub mod Made
+pub mod Blocks

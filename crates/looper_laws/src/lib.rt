@@ -4,6 +4,7 @@
 //! - `cut_runs`: a run may be cut into two at any frame and at any entry.
 //! - `replies`: one frame comes out for each that goes in, and replies answer gets and saves.
 //! - `saved_lists`: a save has the lists at its entry's place, whatever follows.
+//! - `sent_saves`: each save is one whose blocks may follow, and blocks that may follow are those of saves.
 //! - `standing_pins`: the pins that stand are those of the saves that no release has answered.
 //! - `reached`: what always holds of every loop and looper that a run reaches, and what each step keeps of it.
 //! - `other_layers`: nothing changes a layer but the current one.
@@ -21,6 +22,7 @@ mod other_layers;
 mod reached;
 mod replies;
 mod saved_lists;
+mod sent_saves;
 mod shared_room;
 mod standing_pins;
 mod undoing;
@@ -49,6 +51,10 @@ pub use replies::{
 pub use saved_lists::{
     a_pin_holds_its_list_until_the_release, a_save_is_what_its_entry_met, no_save_changes_later,
     saves_are_numbered_in_order, saves_are_those_at_their_entries,
+};
+pub use sent_saves::{
+    each_save_of_a_run_may_be_sent, the_blocks_of_saves_may_follow,
+    the_settings_of_a_looper_lie_in_their_ranges,
 };
 pub use shared_room::{
     a_reached_looper_shares_its_chunks, the_room_that_passes_on_is_what_the_others_leave,

@@ -25,6 +25,7 @@ pub mod Run
 pub mod Cuts
 pub mod Pins
 pub mod Unanswered
+pub mod SaveBlocks
 pub mod States
 pub mod Reached
 pub mod Sharing

@@ -213,7 +213,7 @@ told_in_mode Multiplying layers redo at backward h = open_cycle layers h.0
 told_in_mode _ layers redo at backward h = closed_cycle layers h.0.0
 
 -- the current list isn't too long
-current_short : {A : Type 0} (tape : ℕ) (layers : List (Layer A)) → AreWithin tape layers → current_length layers ≤ max_list_frames
+pub current_short : {A : Type 0} (tape : ℕ) (layers : List (Layer A)) → AreWithin tape layers → current_length layers ≤ max_list_frames
 current_short tape [] within = omega arith
 current_short tape (l ∷ ls) within = within.0.0
 

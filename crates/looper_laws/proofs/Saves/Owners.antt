@@ -100,7 +100,7 @@ map-gone [] = refl
 map-gone (t ∷ ts) = ap₂ (λ h hs. h ∷ hs) (freed_if-hold (session_asker t.asker) t) (map-gone ts)
 
 -- the track of an index is one
-track_at : (frame k : ℕ) (ts : List Track) (t : Track) → AllByRecursion (IsTrack frame) ts → slice_get ts k ≡ Some t → IsTrack frame t
+pub track_at : (frame k : ℕ) (ts : List Track) (t : Track) → AllByRecursion (IsTrack frame) ts → slice_get ts k ≡ Some t → IsTrack frame t
 track_at frame k [] t all there = absurd (cc)
 track_at frame zero (u ∷ us) t all there = let same : u ≡ t = cc in subst (λ v. IsTrack frame v) same all.0
 track_at frame (suc k) (u ∷ us) t all there = track_at frame k us t all.1 there

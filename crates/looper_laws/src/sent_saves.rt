@@ -1,0 +1,48 @@
+//! Each save of a run is one whose blocks may follow, and blocks that may follow are those of saves.
+
+ghost use Rattle.std.specs.Prelude.{◌≡◌, ℕ, ◌+◌, ◌≤◌, List, [], ◌++◌, length, IsTrue, Some, None};
+ghost use Rattle.std.specs.List.{AllByRecursion};
+ghost use Rattle.sl_base.specs.Sounds.{Sound};
+ghost use Rattle.sl_commands.specs.declared.Block.{Block};
+ghost use Rattle.sl_commands.specs.declared.Entry.{Entry};
+ghost use Rattle.sl_commands.specs.Settings.{LooperSettings, are_settings};
+ghost use Rattle.sl_commands.specs.Blocks.{place_of, may_all_follow};
+ghost use Rattle.looper_rules.specs.Looper.{Looper};
+ghost use Rattle.looper_rules.specs.Saves.{Save, settings_of};
+ghost use Rattle.looper_rules.specs.Entries.{save};
+ghost use Rattle.looper_rules.specs.Run.{begun, run, start};
+ghost use Rattle.looper_rules.specs.Cuts.{run_from};
+ghost use Rattle.looper_rules.specs.SaveBlocks.{blocks_for_all, IsMade, AreSent};
+ghost use Rattle.looper_rules.specs.Reached.{KeepsLooper, IsBeginning};
+
+/// Each save of a run is one whose blocks may follow: its target has as many lists, none is too long, and a session's name
+/// leaves room for its files' names. Its name is one, its settings lie in their ranges, and a release can name its target.
+pub fn each_save_of_a_run_may_be_sent()
+    ensures made { (frame : ℕ) → (e : Entry) → (l : Looper) → (s : Save) → KeepsLooper frame l → save e l ≡ Some s → IsMade s }
+    ensures begun { (frame : ℕ) → (es : List Entry) → (xs : List Sound) → (l : Looper) → KeepsLooper frame l →
+        AllByRecursion IsMade (begun frame es xs l).saves }
+    ensures from { (frame : ℕ) → (es : List Entry) → (xs : List Sound) → (l : Looper) → KeepsLooper frame l →
+        AllByRecursion IsMade (run_from frame es xs l).saves }
+    ensures run { (s : LooperSettings) → (chunks : ℕ) → (lists : List (List Sound)) → (es : List Entry) → (input : List Sound) →
+        IsBeginning s chunks lists → AllByRecursion IsMade (run es input (start s chunks lists)).saves }
+
+    // In the order of their numbers, which begin with 0.
+    ensures sent { (s : LooperSettings) → (chunks : ℕ) → (lists : List (List Sound)) → (es : List Entry) → (input : List Sound) →
+        IsBeginning s chunks lists → AreSent 0 (run es input (start s chunks lists)).saves }
+{}
+
+/// The settings that a looper has, and so tells in its saves, lie in their ranges.
+pub fn the_settings_of_a_looper_lie_in_their_ranges()
+    ensures { (frame : ℕ) → (l : Looper) → KeepsLooper frame l → IsTrue (are_settings (settings_of l)) }
+{}
+
+/// The blocks of saves that are numbered in order may follow one another, behind the blocks of those before them, on a ring
+/// for as many saves. Behind them so many whole saves have come, and none has begun.
+pub fn the_blocks_of_saves_may_follow()
+    ensures follow { (blocks : List Block) → (first bound : ℕ) → (saves : List Save) → AreSent first saves →
+        place_of blocks ≡ Some (record { saves = first; begun = None }) → first + length saves ≤ bound →
+        IsTrue (may_all_follow blocks (blocks_for_all saves) bound) }
+    ensures place { (blocks : List Block) → (first : ℕ) → (saves : List Save) → AreSent first saves →
+        place_of blocks ≡ Some (record { saves = first; begun = None }) →
+        place_of (blocks ++ blocks_for_all saves) ≡ Some (record { saves = first + length saves; begun = None }) }
+{}
