@@ -8,3 +8,5 @@ pub mod Holds
 pub mod Owners
 pub mod Made
 pub mod Blocks
+pub mod Parts
+pub mod Prefixes

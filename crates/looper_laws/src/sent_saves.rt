@@ -12,7 +12,7 @@ ghost use Rattle.looper_rules.specs.Saves.{Save, settings_of};
 ghost use Rattle.looper_rules.specs.Entries.{save};
 ghost use Rattle.looper_rules.specs.Run.{begun, run, start};
 ghost use Rattle.looper_rules.specs.Cuts.{run_from};
-ghost use Rattle.looper_rules.specs.SaveBlocks.{blocks_for_all, IsMade, AreSent};
+ghost use Rattle.looper_rules.specs.SaveBlocks.{blocks_for_all, IsMade, AreSent, BeginSaves};
 ghost use Rattle.looper_rules.specs.Reached.{KeepsLooper, IsBeginning};
 
 /// Each save of a run is one whose blocks may follow: its target has as many lists, none is too long, and a session's name
@@ -45,4 +45,10 @@ pub fn the_blocks_of_saves_may_follow()
     ensures place { (blocks : List Block) → (first : ℕ) → (saves : List Save) → AreSent first saves →
         place_of blocks ≡ Some (record { saves = first; begun = None }) →
         place_of (blocks ++ blocks_for_all saves) ≡ Some (record { saves = first + length saves; begun = None }) }
+{}
+
+/// Whatever blocks may follow one by one on a ring are the first blocks of some saves, numbered from 0 and at most as many as
+/// the ring is for, each of which has all its lists.
+pub fn blocks_that_may_follow_begin_those_of_saves()
+    ensures { (blocks : List Block) → (bound : ℕ) → IsTrue (may_all_follow [] blocks bound) → BeginSaves bound blocks }
 {}

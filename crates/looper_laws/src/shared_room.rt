@@ -16,6 +16,7 @@ ghost use Rattle.looper_rules.specs.Looper.{Track, Looper, tape_of, faces_of, it
 ghost use Rattle.looper_rules.specs.Entries.{sets};
 ghost use Rattle.looper_rules.specs.Frame.{at_boundary, at_boundaries, played, played_on, all_played};
 ghost use Rattle.looper_rules.specs.States.{IsLooper};
+ghost use Rattle.looper_rules.specs.Reached.{KeepsLooper};
 ghost use Rattle.looper_rules.specs.Sharing.{tapes_of, has_room_among, left_by, in_turn, in_turn_at, SharesChunks, StaysInReach};
 
 /// The room that passes on from loop to loop is the written test on what all loops use: those before, in the order of
@@ -37,6 +38,17 @@ pub fn the_room_that_passes_on_is_what_the_others_leave()
         let act = at_boundary l.globals frame (faces_of l) in
         (at_boundaries frame l).tracks ≡ in_turn itself (λ before t behind. on_loop act (left_by l.chunks before behind) t) [] l.tracks }
     ensures frames { (x : Sound) → (l : Looper) → SharesChunks l →
+        let act = played l.globals.fade_step x in
+        all_played x l ≡ in_turn played_on (λ before t behind. act (left_by l.chunks before behind) t) [] l.tracks }
+
+    // The same of a looper that keeps what always holds, as it stands before the boundaries and behind them.
+    ensures kept_commands { (done : ℕ) → (target : Target) → (act : ℕ → Loop Sound → Loop Sound) → (l : Looper) → StaysInReach act →
+        KeepsLooper done l → (on_target target act l).tracks
+        ≡ in_turn_at target l.globals.selected_loop_num (λ before t behind. on_loop act (left_by l.chunks before behind) t) l.tracks }
+    ensures kept_boundaries { (done frame : ℕ) → (l : Looper) → KeepsLooper done l →
+        let act = at_boundary l.globals frame (faces_of l) in
+        (at_boundaries frame l).tracks ≡ in_turn itself (λ before t behind. on_loop act (left_by l.chunks before behind) t) [] l.tracks }
+    ensures kept_frames { (done : ℕ) → (x : Sound) → (l : Looper) → KeepsLooper done l →
         let act = played l.globals.fade_step x in
         all_played x l ≡ in_turn played_on (λ before t behind. act (left_by l.chunks before behind) t) [] l.tracks }
 {}

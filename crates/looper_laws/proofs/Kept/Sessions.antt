@@ -1,5 +1,5 @@
 -- While a session's save runs, its pins stand on all loops: entries and frames keep it so.
-use Rattle.std.proofs.Common.{◌≡◌, ℕ, zero, suc, Bool, true, false, ◌||◌, List, [], ◌∷◌, map, Option, Some, None, is_some, slice_get, refl, sym, ap, ap₂, ◌∙◌, subst}
+use Rattle.std.proofs.Common.{◌≡◌, ℕ, zero, suc, Bool, true, false, List, [], ◌∷◌, map, Option, Some, None, is_some, slice_get, refl, sym, ap, ap₂, ◌∙◌, subst}
 use Rattle.std.specs.Prelude.{IfSome, ◌==◌, if◌then◌else◌}
 use Rattle.std.specs.List.{AllByRecursion}
 use Rattle.std.specs.Option.{option_and_then}
@@ -12,7 +12,7 @@ use Rattle.sl_commands.specs.declared.Entry.{Entry}
 use Rattle.sl_commands.specs.declared.StripSettings.{StripSettings}
 use Rattle.looper_rules.specs.Loop.{Loop, length_of}
 use Rattle.looper_rules.specs.Presses.{given, pressed, released}
-use Rattle.looper_rules.specs.Looper.{Asker, Track, Looper, at_index, at_target, on_loop, free_of, faces_of, index_of}
+use Rattle.looper_rules.specs.Looper.{Asker, Track, Looper, at_target, on_loop, free_of, faces_of, index_of}
 use Rattle.looper_rules.specs.Saves.{is_pinned, pinned_for, loop_refusal, save_refusal, session_refusal, loop_asker, session_asker, asker_or, running_session}
 use Rattle.looper_rules.specs.Entries.{is_taken, sets, asker_of, refusal_at, saves_loop, saves_session, releases, performed, applied}
 use Rattle.looper_rules.specs.Frame.{at_boundary, at_boundaries, framed_from}

@@ -1,5 +1,5 @@
 -- The pins that stand are those of the saves that no release has answered: how lists of holds and of saves change.
-use Rattle.std.proofs.Common.{◌≡◌, ◌⊎◌, ℕ, zero, suc, Bool, true, false, not, List, [], ◌∷◌, ◌++◌, map, filter, Option, Some, None, length, is_some, slice_get, option_map, refl, sym, ap, ◌∙◌, subst, inl, inr, arith}
+use Rattle.std.proofs.Common.{◌≡◌, ℕ, zero, suc, Bool, true, false, not, List, [], ◌∷◌, ◌++◌, map, filter, Option, Some, None, length, is_some, slice_get, option_map, refl, sym, ap, ◌∙◌, subst, inl, inr, arith}
 use Rattle.std.specs.Prelude.{◌≢◌, IfSome, IsTrue, ◌==◌, if◌then◌else◌}
 use Rattle.std.specs.List.{AllByRecursion}
 use Rattle.std.proofs.lemmas.Bool.{eqb-true, eqb-false}
@@ -168,8 +168,8 @@ pub loop_pinned : (k : ℕ) (s : Save) (asker : Asker) (list : List Sound) (save
 loop_pinned k s asker list saves hs target lists kind free there h =
     record {
       held = all_append (λ (x : Save). IsHeld x.target x.lists (changed k put hs)) saves (s ∷ [])
-      (all_weaker (λ (x : Save). IsHeld x.target x.lists hs) (λ (x : Save). IsHeld x.target x.lists (changed k put hs)) saves (λ x held. held_beside x.target x.lists k put hs free held) h.held)
-      (subst (λ t. IsHeld t s.lists (changed k put hs)) (sym target) (subst (λ o. HoldsLoop s.lists o) (sym now) (own, asks)), tt);
+          (all_weaker (λ (x : Save). IsHeld x.target x.lists hs) (λ (x : Save). IsHeld x.target x.lists (changed k put hs)) saves (λ x held. held_beside x.target x.lists k put hs free held) h.held)
+          (subst (λ t. IsHeld t s.lists (changed k put hs)) (sym target) (subst (λ o. HoldsLoop s.lists o) (sym now) (own, asks)), tt);
       owned = λ j. at_index j (j == k) refl;
     }
   where
@@ -235,8 +235,8 @@ pub session_pinned : (s : Save) (asker : Asker) (saves : List Save) (hs : List H
 session_pinned s asker saves hs target kind many free h =
     record {
       held = all_append (λ (x : Save). IsHeld x.target x.lists (all_put asker s.lists)) saves (s ∷ [])
-      (all_weaker (λ (x : Save). IsHeld x.target x.lists hs) (λ (x : Save). IsHeld x.target x.lists (all_put asker s.lists)) saves (λ x held. none_before x.target x.lists hs s.lists many free held) h.held)
-      (subst (λ t. IsHeld t s.lists (all_put asker s.lists)) (sym target) (put_holds asker s.lists (ap (λ b. if b then Some asker else None) kind)), tt);
+          (all_weaker (λ (x : Save). IsHeld x.target x.lists hs) (λ (x : Save). IsHeld x.target x.lists (all_put asker s.lists)) saves (λ x held. none_before x.target x.lists hs s.lists many free held) h.held)
+          (subst (λ t. IsHeld t s.lists (all_put asker s.lists)) (sym target) (put_holds asker s.lists (ap (λ b. if b then Some asker else None) kind)), tt);
       owned = λ j. put_owned j asker s.lists s saves (λ i. ap (λ b. if b then All else One i) kind ∙ sym target) j;
     }
   where

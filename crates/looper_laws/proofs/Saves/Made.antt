@@ -1,6 +1,6 @@
 -- Each save that an entry makes is one whose blocks may follow, and so is each save of a run.
-use Rattle.std.proofs.Common.{◌≡◌, ◌⊎◌, ℕ, zero, suc, ◌+◌, ◌<◌, Bool, true, false, List, [], ◌∷◌, ◌++◌, map, length, Option, Some, None, slice_get, option_to_list, refl, sym, ap, ◌∙◌, subst, inl, inr, nat_le, arith}
-use Rattle.std.specs.Prelude.{IsTrue, ◌&&◌, ◌==◌, if◌then◌else◌}
+use Rattle.std.proofs.Common.{◌≡◌, ◌⊎◌, ℕ, ◌+◌, ◌<◌, true, List, [], ◌∷◌, map, length, Option, Some, None, option_to_list, refl, sym, subst, inl, inr, nat_le, arith}
+use Rattle.std.specs.Prelude.{◌&&◌}
 use Rattle.std.specs.List.{AllByRecursion, list_all, range_with_len}
 use Rattle.std.proofs.lemmas.Bool.{and_parts, and_from, le-leb, lt-ltb, eq-eqb}
 use Rattle.std.proofs.lemmas.List.{length-map}
@@ -9,25 +9,25 @@ use Rattle.sl_base.specs.Limits.{max_list_frames}
 use Rattle.sl_base.specs.Sounds.{Sound}
 use Rattle.sl_base.specs.Names.{is_name}
 use Rattle.sl_commands.specs.declared.Target.{Target}
-use Rattle.sl_commands.specs.declared.Target.TheVariants.{One, All}
+use Rattle.sl_commands.specs.declared.Target.TheVariants.{One}
 use Rattle.sl_commands.specs.declared.Command.{Command}
 use Rattle.sl_commands.specs.declared.Command.TheVariants.{SaveLoop, SaveSession}
 use Rattle.sl_commands.specs.declared.Entry.{Entry}
-use Rattle.sl_commands.specs.Commands.{is_single_target, is_session_name, is_allowed}
-use Rattle.sl_commands.specs.Entries.{is_sender, is_valid}
+use Rattle.sl_commands.specs.Commands.{is_single_target, is_allowed}
+use Rattle.sl_commands.specs.Entries.{is_sender}
 use Rattle.sl_commands.specs.Settings.{is_strip, are_strips, are_globals, is_rate, is_loop_count, are_settings}
-use Rattle.sl_commands.specs.Blocks.{has_list, first_index, IsSave}
-use Rattle.looper_rules.specs.Layers.{Layer, content_of, current_cells}
+use Rattle.sl_commands.specs.Blocks.{has_list}
+use Rattle.looper_rules.specs.Layers.{content_of, current_cells}
 use Rattle.looper_rules.specs.Looper.{Track, Looper, index_of}
 use Rattle.looper_rules.specs.Saves.{Save, list_on, strip_on, settings_of}
 use Rattle.looper_rules.specs.Entries.{is_taken, track_of, save, save_of, loop_save, session_save, applied}
 use Rattle.looper_rules.specs.Frame.{framed}
 use Rattle.looper_rules.specs.Run.{entered, due, later, begun}
 use Rattle.looper_rules.specs.Cuts.{run_from}
-use Rattle.looper_rules.specs.SaveBlocks.{MayBeSent, IsMade, AreSent}
+use Rattle.looper_rules.specs.SaveBlocks.{IsMade, AreSent}
 use Rattle.looper_rules.specs.States.{IsTrack, IsLooper}
 use Rattle.looper_rules.specs.Reached.{KeepsLooper}
-use Rattle.looper_laws.proofs.Saves.Entries.{taken_some, taken_if_some, save-of_loop, save-of_session, save-only}
+use Rattle.looper_laws.proofs.Saves.Entries.{taken_if_some, save-of_loop, save-of_session, save-only}
 use Rattle.looper_laws.proofs.Saves.Holds.{all_append}
 use Rattle.looper_laws.proofs.Saves.Owners.{track_at}
 use Rattle.looper_laws.proofs.Kept.Starts.{strip_valid, current_short}

@@ -1,6 +1,6 @@
 -- The pins that stand are those of the saves that no release has answered: each entry and each frame keeps it.
-use Rattle.std.proofs.Common.{◌≡◌, ℕ, zero, suc, ◌+◌, Bool, true, false, not, ◌||◌, List, [], ◌∷◌, ◌++◌, map, filter, length, Option, Some, None, is_some, slice_get, option_map, option_to_list, refl, sym, ap, ap₂, ◌∙◌, subst, append-nil}
-use Rattle.std.specs.Prelude.{IfSome, IsTrue, ◌==◌, if◌then◌else◌}
+use Rattle.std.proofs.Common.{◌≡◌, ℕ, zero, suc, ◌+◌, Bool, true, false, ◌||◌, List, [], ◌∷◌, ◌++◌, map, Option, Some, None, is_some, slice_get, option_map, option_to_list, refl, sym, ap, ap₂, ◌∙◌, subst, append-nil}
+use Rattle.std.specs.Prelude.{IfSome, ◌==◌, if◌then◌else◌}
 use Rattle.std.specs.List.{AllByRecursion}
 use Rattle.std.specs.Option.{option_and_then}
 use Rattle.std.proofs.lemmas.Option.{slice_get-map}
@@ -17,15 +17,14 @@ use Rattle.looper_rules.specs.Presses.{given, pressed, released}
 use Rattle.looper_rules.specs.Boundaries.{is_boundary}
 use Rattle.looper_rules.specs.LoopFrame.{ready}
 use Rattle.looper_rules.specs.Looper.{Asker, Track, Looper, swept, itself, at_index, at_target, on_loop, free_of, faces_of, index_of}
-use Rattle.looper_rules.specs.Saves.{Save, list_on, pinned_for, is_pinned, loop_refusal, save_refusal, any_pinned, session_refusal, loop_asker, session_asker, freed_if, loop_released, session_released}
-use Rattle.looper_rules.specs.Entries.{is_taken, sets, applied, performed, asker_of, refusal_at, track_of, saves_loop, saves_session, releases, loop_save, session_save, unless_refused, save, save_of}
+use Rattle.looper_rules.specs.Saves.{Save, list_on, pinned_for, is_pinned, loop_refusal, save_refusal, any_pinned, loop_asker, session_asker, freed_if, loop_released, session_released}
+use Rattle.looper_rules.specs.Entries.{is_taken, sets, applied, performed, asker_of, refusal_at, track_of, saves_loop, saves_session, releases, loop_save, session_save, unless_refused, save_of}
 use Rattle.looper_rules.specs.Frame.{at_boundary, at_boundaries, played_on, played, framed_from, framed}
-use Rattle.looper_rules.specs.Run.{first_track, first_tracks, start, entered, due, later, begun, run}
-use Rattle.looper_rules.specs.Pins.{pin_on}
-use Rattle.looper_rules.specs.Unanswered.{still_unanswered, unanswered_after, unanswered_entered, unanswered_begun, unanswered, Hold, list_in, hold_on, holds_of, HoldPins}
+use Rattle.looper_rules.specs.Run.{first_tracks, entered, due, later, begun}
+use Rattle.looper_rules.specs.Unanswered.{still_unanswered, unanswered_after, unanswered_entered, unanswered_begun, Hold, list_in, hold_on, holds_of, HoldPins}
 use Rattle.looper_rules.specs.States.{IsTrack}
 use Rattle.looper_rules.specs.Reached.{KeepsLooper}
-use Rattle.looper_laws.proofs.Saves.Loops.{pin_in, given_pin, pressed_pin, released_pin, waiting_acts_pin, ready_pin, after_pin}
+use Rattle.looper_laws.proofs.Saves.Loops.{given_pin, pressed_pin, released_pin, ready_pin, after_pin}
 use Rattle.looper_laws.proofs.Saves.Pins.{LeavesPins, boundary-pin}
 use Rattle.looper_laws.proofs.Saves.Holds.{changed, IsFree, AreFree, gone, loop_gone, session_gone, kept_by, all_put, loop_pinned, session_pinned, loop_released_holds, session_released_holds}
 use Rattle.looper_laws.proofs.Kept.Runs.{entry_keeps, entered_keeps, frame_keeps}

@@ -1,11 +1,10 @@
 -- A release takes away the pins that it names, and changes nothing else of any track.
-use Rattle.std.proofs.Common.{◌≡◌, ℕ, zero, suc, Bool, true, false, not, List, [], ◌∷◌, map, Option, Some, None, slice_get, option_map, refl, sym, ap, ◌∙◌, subst}
+use Rattle.std.proofs.Common.{◌≡◌, ℕ, zero, suc, Bool, true, false, not, List, [], ◌∷◌, Option, Some, None, slice_get, option_map, refl, sym, ap, ◌∙◌, subst}
 use Rattle.std.specs.Prelude.{◌≢◌, ◌==◌, ◌&&◌, if◌then◌else◌}
 use Rattle.std.proofs.lemmas.Bool.{eqb-true, eqb-false, eq-eqb}
 use Rattle.std.proofs.lemmas.Option.{slice_get-map}
 use Rattle.sl_commands.specs.declared.Target.{Target}
 use Rattle.sl_commands.specs.declared.Target.TheVariants.{One, All, Selected}
-use Rattle.sl_commands.specs.declared.Command.{Command}
 use Rattle.sl_commands.specs.declared.Command.TheVariants.{Release}
 use Rattle.sl_commands.specs.declared.Entry.{Entry}
 use Rattle.looper_rules.specs.Looper.{Asker, Track, Looper, at_index}

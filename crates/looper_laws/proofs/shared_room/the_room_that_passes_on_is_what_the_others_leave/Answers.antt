@@ -4,7 +4,7 @@ use Rattle.looper_rules.specs.Frame.{at_boundary, played, played_on}
 use Rattle.looper_laws.proofs.Others.Stacks.{IsDone}
 use Rattle.looper_laws.proofs.Others.Frames.{frame_done}
 use Rattle.looper_laws.proofs.Others.Tracks.{at_boundary_done}
-use Rattle.looper_laws.proofs.Room.Sharing.{has_room-left_by, has_room-own_tape, swept_in_turn, on_target_in_turn}
+use Rattle.looper_laws.proofs.Room.Sharing.{has_room-left_by, has_room-own_tape, looper_shares, swept_in_turn, on_target_in_turn}
 use Rattle.looper_laws.proofs.shared_room.the_room_that_passes_on_is_what_the_others_leave.Goals as goal
 
 pub returns-clause-room : goal.returns-clause-room
@@ -27,3 +27,12 @@ returns-clause-frames c x l shares =
     swept_in_turn played_on (played l.globals.fade_step x) l
     (λ reach t fits. (let done : IsDone reach t.loop.stack (frame_later x reach t.loop).stack = frame_done x t.loop in done.chunks fits))
     shares
+
+pub returns-clause-kept_commands : goal.returns-clause-kept_commands
+returns-clause-kept_commands c done target act l stays h = returns-clause-commands c target act l stays (looper_shares done l h.looper)
+
+pub returns-clause-kept_boundaries : goal.returns-clause-kept_boundaries
+returns-clause-kept_boundaries c done frame l h = returns-clause-boundaries c frame l (looper_shares done l h.looper)
+
+pub returns-clause-kept_frames : goal.returns-clause-kept_frames
+returns-clause-kept_frames c done x l h = returns-clause-frames c x l (looper_shares done l h.looper)

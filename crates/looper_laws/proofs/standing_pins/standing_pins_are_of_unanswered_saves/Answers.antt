@@ -1,4 +1,4 @@
-use Rattle.std.proofs.Common.{[], length, refl}
+use Rattle.std.proofs.Common.{[], length}
 use Rattle.looper_rules.specs.Run.{begun, start}
 use Rattle.looper_rules.specs.Unanswered.{unanswered_begun}
 use Rattle.looper_laws.proofs.Saves.Owners.{applied-holds, entered-holds, begun-holds, first-holds}
