@@ -103,3 +103,9 @@ done_more givers k sums begun now d less left more done all =
 -- the sums behind all frames
 pub done_all : (givers k : ℕ) (sums : List Sound) → length sums ≤ k → AreSumsOf givers (take k sums) → AreSumsOf givers sums
 done_all givers k sums all h = subst (AreSumsOf givers) (take_all k sums all) h
+
+-- sums of fewer givers are sums of more
+pub sums_of_more : (fewer more : ℕ) (sums : List Sound) → fewer ≤ more → AreSumsOf fewer sums → AreSumsOf more sums
+sums_of_more fewer more [] less all = tt
+sums_of_more fewer more (s ∷ sums) less all =
+    (record { left = omega (arith, all.0.left); right = omega (arith, all.0.right) }, sums_of_more fewer more sums less all.1)

@@ -1,23 +1,15 @@
 //! Gains that move frame by frame, and sums that are clamped once.
 
 use super::*;
-use sl_base::Frame;
+use sl_base::{Frame, widen};
 
-/// Frames with this sample on both sides.
-fn frames_of(side: i32) -> [Frame; 3] {
-    let mut frames = [Frame::silence(); 3];
-    if -8388608 <= side && side <= 8388607 {
-        frames = [Frame {
-            left: side,
-            right: side,
-        }; 3];
+/// A frame with this sample of 16 bits on both sides.
+fn frame_of(sample: i16) -> Frame {
+    let side = widen(sample);
+    Frame {
+        left: side,
+        right: side,
     }
-    frames
-}
-
-/// The left sides.
-fn left_of(frames: &[Frame; 3]) -> [i32; 3] {
-    [frames[0].left, frames[1].left, frames[2].left]
 }
 
 #[test]
@@ -26,9 +18,10 @@ fn a_gain_moves_frame_by_frame(rt: HostRuntime) {
     let mut output = [Frame::silence(); 3];
     let mut gain = Gain::new(0);
     clear_span(&mut sums);
-    add_span(&mut sums, &frames_of(1000), &mut gain, 1000, 500);
+    add_span(&mut sums, &[frame_of(1000); 3], &mut gain, 1000, 500);
     close_span(&sums, &mut output);
-    assert_eq!(rt; left_of(&output), [500, 1000, 1000]);
+    let expected = [frame_of(500), frame_of(1000), frame_of(1000)];
+    assert_eq!(rt; output.as_slice(), expected.as_slice());
     assert_eq!(rt; gain.step(0, 300), 700);
 }
 
@@ -38,11 +31,9 @@ fn sums_are_clamped_once(rt: HostRuntime) {
     let mut output = [Frame::silence(); 3];
     let mut gain = Gain::new(1000);
     clear_span(&mut sums);
-    add_span(&mut sums, &frames_of(8388607), &mut gain, 1000, 20);
-    add_span(&mut sums, &frames_of(8388607), &mut gain, 1000, 20);
+    add_span(&mut sums, &[frame_of(32767); 3], &mut gain, 1000, 20);
+    add_span(&mut sums, &[frame_of(32767); 3], &mut gain, 1000, 20);
+    add_span(&mut sums, &[frame_of(-32768); 3], &mut gain, 1000, 20);
     close_span(&sums, &mut output);
-    assert_eq!(rt; left_of(&output), [8388607, 8388607, 8388607]);
-    add_span(&mut sums, &frames_of(-8388608), &mut gain, 1000, 20);
-    close_span(&sums, &mut output);
-    assert_eq!(rt; left_of(&output), [8388606, 8388606, 8388606]);
+    assert_eq!(rt; output.as_slice(), [frame_of(32766); 3].as_slice());
 }
