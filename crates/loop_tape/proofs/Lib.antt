@@ -1,0 +1,5 @@
+pub mod ChunkLemmas
+pub mod PoolLemmas
+pub mod SlotLemmas
+pub mod CutLemmas
+pub mod SpanLemmas
