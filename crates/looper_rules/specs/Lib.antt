@@ -1,5 +1,6 @@
 pub mod Layers
 pub mod Stack
+pub mod Mapping
 pub mod Room
 pub mod Opening
 pub mod Writing
@@ -27,6 +28,7 @@ pub mod Pins
 pub mod Unanswered
 pub mod SaveBlocks
 pub mod States
+pub mod WritePlaces
 pub mod Reached
 pub mod Sharing
 pub mod Worked

@@ -35,6 +35,11 @@ abbrev pub pinned_tape : {A : Type 0} → Option (Pin A) → ℕ
 pinned_tape None = 0
 pinned_tape (Some p) = p.tape
 
+-- the list that a pin holds, empty without one
+abbrev pub pinned_list : {A : Type 0} → Option (Pin A) → List A
+pinned_list None = []
+pinned_list (Some p) = p.list
+
 -- the run is over: the next write begins another
 abbrev pub run_broken : {A : Type 0} → Stack A → Stack A
 run_broken s = record s { run = None }

@@ -81,3 +81,8 @@ with_base l = record l { cells = l.cells ++ old_cells l.base; seams = l.seams + 
 -- the stack with the open layer extended
 abbrev pub extended : {A : Type 0} → Stack A → Stack A
 extended s = record s { layers = with_current with_base s.layers }
+
+-- the stack with the open layer extended, or as it is
+abbrev pub extended_if : {A : Type 0} → Bool → Stack A → Stack A
+extended_if true s = extended s
+extended_if false s = s
