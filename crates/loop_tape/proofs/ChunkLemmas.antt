@@ -1,6 +1,5 @@
 -- Lists of chunk numbers, and how many there can be.
-use Rattle.std.proofs.Common.{◌≡◌, ◌≢◌, ◌≤◌, ◌<◌, ℕ, ◌+◌, ◌-◌, List, [], ◌∷◌, ◌++◌, length, refl, sym, ap, arith, get_or, length-append, eqb, true, false, suc, zero}
-use Rattle.std.proofs.lemmas.Grind.{common_steps}
+use Rattle.std.proofs.Common.{◌≡◌, ◌≢◌, ◌≤◌, ◌<◌, ℕ, ◌+◌, ◌-◌, List, [], ◌∷◌, ◌++◌, length, refl, arith, get_or, length-append, eqb, true, false, suc}
 use Rattle.std.proofs.lemmas.List.{get_or_append_left}
 use Rattle.std.proofs.Math.Seq.{get_or-append_right, get_or-append_seam}
 use Rattle.std.proofs.lemmas.Map.Steps.{length-le_from_distinct_below}
@@ -29,9 +28,9 @@ distinct_fewer xs k once i j li lj e = once i j (let h = length-last xs k in ome
 -- the last number stands nowhere before
 pub last_outside : (xs : List ℕ) (k : ℕ) → AreDistinct (xs ++ k ∷ []) → IsOutside k xs
 last_outside xs k once j lj e =
-  let h = length-last xs k in
-  let z : j ≡ length xs = once j (length xs) (omega (arith, h, lj)) (omega (arith, h)) (let a = before_last xs k j lj in let b = at_last xs k (length xs) refl in omega (arith, a, b, e)) in
-  omega (arith, z, lj)
+    let h = length-last xs k in
+    let z : j ≡ length xs = once j (length xs) (omega (arith, h, lj)) (omega (arith, h)) (let a = before_last xs k j lj in let b = at_last xs k (length xs) refl in omega (arith, a, b, e)) in
+    omega (arith, z, lj)
 
 any_below : (xs : List ℕ) (n : ℕ) → ((i : ℕ) → i < length xs → get_or xs i 0 < n) → (q : ℕ) → list_any (eqb q) xs ≡ true → q < n
 any_below [] n inside q e = grind arith
@@ -48,9 +47,10 @@ all_others x (y ∷ ys) far = (let z : y ≢ x = far 0 (omega arith) in grind (a
 distinct : (xs : List ℕ) → AreDistinct xs → IsDistinct eqb xs
 unfolding IsDistinct
 distinct [] once = tt
-distinct (x ∷ xs) once =
-  (all_others x xs (λ i li e. let z : suc i ≡ 0 = once (suc i) 0 (omega (arith, li)) (omega arith) e in omega (arith, z)),
-   distinct xs (λ i j li lj e. let z : suc i ≡ suc j = once (suc i) (suc j) (omega (arith, li)) (omega (arith, lj)) e in omega (arith, z)))
+distinct (x ∷ xs) once = (
+  all_others x xs (λ i li e. let z : suc i ≡ 0 = once (suc i) 0 (omega (arith, li)) (omega arith) e in omega (arith, z)),
+  distinct xs (λ i j li lj e. let z : suc i ≡ suc j = once (suc i) (suc j) (omega (arith, li)) (omega (arith, lj)) e in omega (arith, z)),
+)
 
 left : (xs ys : List ℕ) (i : ℕ) → i < length xs → get_or (xs ++ ys) i 0 ≡ get_or xs i 0
 left xs ys i li = get_or_append_left xs ys 0 i li
@@ -67,5 +67,5 @@ both_below xs ys n ix iy i li = grind (arith, ix i, iy (i - length xs), left xs 
 -- lists that have nothing in common, of numbers below one, are together at most as long
 pub length-both : (xs ys : List ℕ) (n : ℕ) → AreDistinct xs → AreDistinct ys → ((i j : ℕ) → i < length xs → j < length ys → get_or xs i 0 ≢ get_or ys j 0) → ((i : ℕ) → i < length xs → get_or xs i 0 < n) → ((i : ℕ) → i < length ys → get_or ys i 0 < n) → length xs + length ys ≤ n
 length-both xs ys n ox oy apart ix iy =
-  let h = length-le_from_distinct_below (xs ++ ys) n (distinct (xs ++ ys) (both xs ys ox oy apart)) (any_below (xs ++ ys) n (both_below xs ys n ix iy)) in
-  let e = length-append xs ys in omega (arith, h, e)
+    let h = length-le_from_distinct_below (xs ++ ys) n (distinct (xs ++ ys) (both xs ys ox oy apart)) (any_below (xs ++ ys) n (both_below xs ys n ix iy)) in
+    let e = length-append xs ys in omega (arith, h, e)

@@ -1,11 +1,10 @@
 -- Frames that are padded with silence, and free chunks.
 use Rattle.std.proofs.Common.{◌≡◌, ◌≢◌, ◌≤◌, ◌<◌, ℕ, zero, suc, ◌+◌, ◌-◌, ◌*◌, ◌/◌, ◌%◌, List, [], ◌∷◌, ◌++◌, length, refl, sym, ap, arith, get_or, set, length-append, append_assoc, replicate}
-use Rattle.std.proofs.lemmas.Grind.{common_steps}
 use Rattle.std.proofs.lemmas.List.{get_or_append_left, get_or-replicate, get_or_past, length-replicate, set-append_left, append-nil, length-set, replicate-append-replicate}
-use Rattle.std.proofs.Math.Seq.{get_or-append_right, get_or-append_seam}
+use Rattle.std.proofs.Math.Seq.{get_or-append_right}
 use Rattle.sl_base.specs.Sounds.{Sound, silence}
 use Rattle.loop_tape.proofs.ChunkLemmas.{length-last, before_last, at_last, distinct_more, distinct_fewer, last_outside}
-use Rattle.loop_tape.specs.Pools.{PoolOf, IsPool, IsTaken, IsOutside, AreDistinct, HoldsPool, padded, downward, free_of}
+use Rattle.loop_tape.specs.Pools.{PoolOf, IsPool, IsTaken, IsOutside, HoldsPool, padded, downward, free_of}
 
 -- padded frames
 
@@ -27,20 +26,20 @@ length-padded n xs le = let e = length-append xs (replicate (n - length xs) sile
 -- padding twice
 pub padded-padded : (n m : ℕ) (xs : List Sound) → m ≤ n → padded n (padded m xs) ≡ padded n xs
 padded-padded n m xs le =
-  let e = append_assoc xs (replicate (m - length xs) silence) (replicate (n - length (padded m xs)) silence) in
-  let f = replicate-append-replicate (m - length xs) (n - length (padded m xs)) silence in
-  let g = length-append xs (replicate (m - length xs) silence) in
-  let k = length-replicate (m - length xs) silence in
-  let h : (m - length xs) + (n - length (padded m xs)) ≡ n - length xs = omega (arith, g, k, le) in
-  rw (e, f, h) refl
+    let e = append_assoc xs (replicate (m - length xs) silence) (replicate (n - length (padded m xs)) silence) in
+    let f = replicate-append-replicate (m - length xs) (n - length (padded m xs)) silence in
+    let g = length-append xs (replicate (m - length xs) silence) in
+    let k = length-replicate (m - length xs) silence in
+    let h : (m - length xs) + (n - length (padded m xs)) ≡ n - length xs = omega (arith, g, k, le) in
+    rw (e, f, h) refl
 
 -- one frame of silence more
 pub padded-pushed : (n : ℕ) (xs : List Sound) → length xs < n → padded n (xs ++ silence ∷ []) ≡ padded n xs
 padded-pushed n xs lt =
-  let e = append_assoc xs (silence ∷ []) (replicate (n - length (xs ++ silence ∷ [])) silence) in
-  let g = length-append xs (silence ∷ []) in
-  let h : suc (n - length (xs ++ silence ∷ [])) ≡ n - length xs = omega (arith, g, lt) in
-  rw (e, ← h) refl
+    let e = append_assoc xs (silence ∷ []) (replicate (n - length (xs ++ silence ∷ [])) silence) in
+    let g = length-append xs (silence ∷ []) in
+    let h : suc (n - length (xs ++ silence ∷ [])) ≡ n - length xs = omega (arith, g, lt) in
+    rw (e, ← h) refl
 
 -- free chunks
 
@@ -54,92 +53,109 @@ get_or-downward b (suc n) zero lt = omega arith
 get_or-downward b (suc n) (suc i) lt = let h = get_or-downward b n i (omega (arith, lt)) in omega (arith, h)
 
 -- the first of the chunks stands at the end
-pub downward-first : (b n : ℕ) → downward b (suc n) ≡ downward (suc b) n ++ b ∷ []
-downward-first b zero = grind arith
-downward-first b (suc n) = let h = downward-first b n in let e : b + suc n ≡ suc b + n = omega arith in rw (h, e) refl
+pub downward_first : (b n : ℕ) → downward b (suc n) ≡ downward (suc b) n ++ b ∷ []
+downward_first b zero = grind arith
+downward_first b (suc n) = let h = downward_first b n in let e : b + suc n ≡ suc b + n = omega arith in rw (h, e) refl
 
 pub length-free : (b a : ℕ) (given : List ℕ) → length (free_of b a given) ≡ (a - b) + length given
 length-free b a given = let e = length-append (downward b (a - b)) given in let f = length-downward b (a - b) in omega (arith, e, f)
 
 -- a chunk that was never taken
-free-first : (b a : ℕ) (given : List ℕ) (j : ℕ) → b ≤ a → j < a - b → get_or (free_of b a given) j 0 + j + 1 ≡ a
-free-first b a given j le lt = let e = get_or_append_left (downward b (a - b)) given 0 j (let f = length-downward b (a - b) in omega (arith, f, lt)) in let h = get_or-downward b (a - b) j lt in omega (arith, e, h, le)
+free_first : (b a : ℕ) (given : List ℕ) (j : ℕ) → b ≤ a → j < a - b → get_or (free_of b a given) j 0 + j + 1 ≡ a
+free_first b a given j le lt = let e = get_or_append_left (downward b (a - b)) given 0 j (let f = length-downward b (a - b) in omega (arith, f, lt)) in let h = get_or-downward b (a - b) j lt in omega (arith, e, h, le)
 
 -- a chunk that was given back
-free-given : (b a : ℕ) (given : List ℕ) (j : ℕ) → a - b ≤ j → get_or (free_of b a given) j 0 ≡ get_or given (j - (a - b)) 0
-free-given b a given j le = let f = length-downward b (a - b) in let e = get_or-append_right (downward b (a - b)) given j 0 (omega (arith, f, le)) in rw f at e
+free_given : (b a : ℕ) (given : List ℕ) (j : ℕ) → a - b ≤ j → get_or (free_of b a given) j 0 ≡ get_or given (j - (a - b)) 0
+free_given b a given j le = let f = length-downward b (a - b) in let e = get_or-append_right (downward b (a - b)) given j 0 (omega (arith, f, le)) in rw f at e
 
 -- a chunk that is taken was filled
-pub taken-begun : (b a : ℕ) (given : List ℕ) (c : ℕ) → b ≤ a → c < a → IsOutside c (free_of b a given) → c < b
-taken-begun b a given c le lt out = grind (arith, out (a - 1 - c), free-first b a given (a - 1 - c), length-free b a given)
+pub taken_begun : (b a : ℕ) (given : List ℕ) (c : ℕ) → b ≤ a → c < a → IsOutside c (free_of b a given) → c < b
+taken_begun b a given c le lt out = grind (arith, out (a - 1 - c), free_first b a given (a - 1 - c), length-free b a given)
 
 -- a list that is long enough stays
 pub padded-long : (n : ℕ) (xs : List Sound) → n ≤ length xs → padded n xs ≡ xs
 padded-long n xs le = let e : n - length xs ≡ 0 = omega (arith, le) in rw e (append-nil xs)
 
 -- what lies in a chunk that is taken was filled
-pub slot-filled : (p : PoolOf) (store : List Sound) (given : List ℕ) (b slot : ℕ) → IsTaken p (slot / 4096) → HoldsPool store given b p.all → p.free ≡ free_of b p.all given → slot < length store
-slot-filled p store given b slot t h e = let g = taken-begun b p.all given (slot / 4096) h.within t.inside (rw e at t.taken) in let f = h.filled in omega (arith, g, f)
+pub slot_filled : (p : PoolOf) (store : List Sound) (given : List ℕ) (b slot : ℕ) → IsTaken p (slot / 4096) → HoldsPool store given b p.all → p.free ≡ free_of b p.all given → slot < length store
+slot_filled p store given b slot t h e = let g = taken_begun b p.all given (slot / 4096) h.within t.inside (rw e at t.taken) in let f = h.filled in omega (arith, g, f)
 
 -- a part of a chunk that is taken was filled
-pub part-filled : (p : PoolOf) (store : List Sound) (given : List ℕ) (b slot count : ℕ) → IsTaken p (slot / 4096) → HoldsPool store given b p.all → p.free ≡ free_of b p.all given → slot % 4096 + count ≤ 4096 → slot + count ≤ length store
-part-filled p store given b slot count t h e le = let g = taken-begun b p.all given (slot / 4096) h.within t.inside (rw e at t.taken) in let f = h.filled in omega (arith, g, f, le)
+pub part_filled : (p : PoolOf) (store : List Sound) (given : List ℕ) (b slot count : ℕ) → IsTaken p (slot / 4096) → HoldsPool store given b p.all → p.free ≡ free_of b p.all given → slot % 4096 + count ≤ 4096 → slot + count ≤ length store
+part_filled p store given b slot count t h e le = let g = taken_begun b p.all given (slot / 4096) h.within t.inside (rw e at t.taken) in let f = h.filled in omega (arith, g, f, le)
 
 -- what always holds of a pool, of its parts
-pub pool-held : (store : List Sound) (given : List ℕ) (b a : ℕ) → HoldsPool store given b a → IsPool (record { store = padded (a * 4096) store; free = free_of b a given; all = a })
-pool-held store given b a h = record {
+pub held_pool : (store : List Sound) (given : List ℕ) (b a : ℕ) → HoldsPool store given b a → IsPool (record { store = padded (a * 4096) store; free = free_of b a given; all = a })
+held_pool store given b a h = record {
   store = length-padded (a * 4096) store h.short;
-  inside = λ i lt. grind (arith, free-first b a given i, free-given b a given i, h.below (i - (a - b)), length-free b a given, h.within);
-  once = h.once }
+  inside = λ i lt. grind (arith, free_first b a given i, free_given b a given i, h.below (i - (a - b)), length-free b a given, h.within);
+  once = h.once;
+}
 
 -- a new pool
-pub held-new : (a : ℕ) → a ≤ 32768 → HoldsPool [] [] 0 a
-held-new a le = record {
-  once = λ i j li lj e. grind (arith, free-first 0 a [] i, free-first 0 a [] j, length-free 0 a []);
+pub held_new : (a : ℕ) → a ≤ 32768 → HoldsPool [] [] 0 a
+held_new a le = record {
+  once = λ i j li lj e. grind (arith, free_first 0 a [] i, free_first 0 a [] j, length-free 0 a []);
   below = λ j lt. absurd (omega (arith, lt));
   fewer = omega arith;
   within = omega arith;
   most = le;
   filled = omega arith;
-  short = omega arith }
+  short = omega arith;
+}
 
 -- more frames filled, or frames set
-pub held-filled : (store store' : List Sound) (given : List ℕ) (b a : ℕ) → HoldsPool store given b a → length store ≤ length store' → length store' ≤ a * 4096 → HoldsPool store' given b a
-held-filled store store' given b a h more le = record {
-  once = h.once; below = h.below; fewer = h.fewer; within = h.within; most = h.most; short = le;
-  filled = let f = h.filled in omega (arith, f, more) }
+pub held_filled : (store store' : List Sound) (given : List ℕ) (b a : ℕ) → HoldsPool store given b a → length store ≤ length store' → length store' ≤ a * 4096 → HoldsPool store' given b a
+held_filled store store' given b a h more le = record {
+  once = h.once;
+  below = h.below;
+  fewer = h.fewer;
+  within = h.within;
+  most = h.most;
+  short = le;
+  filled = let f = h.filled in omega (arith, f, more);
+}
 
 -- the free chunks with one given back
-free-more : (b a : ℕ) (given : List ℕ) (k : ℕ) → free_of b a (given ++ k ∷ []) ≡ free_of b a given ++ k ∷ []
-free-more b a given k = sym (append_assoc (downward b (a - b)) given (k ∷ []))
+free_more : (b a : ℕ) (given : List ℕ) (k : ℕ) → free_of b a (given ++ k ∷ []) ≡ free_of b a given ++ k ∷ []
+free_more b a given k = sym (append_assoc (downward b (a - b)) given (k ∷ []))
 
 -- the free chunks with one begun
-pub free-begun : (b a : ℕ) → b < a → free_of b a [] ≡ free_of (suc b) a [] ++ b ∷ []
-free-begun b a lt =
-  let e : a - b ≡ suc (a - suc b) = omega (arith, lt) in
-  let f = downward-first b (a - suc b) in
-  rw (append-nil (downward b (a - b)), append-nil (downward (suc b) (a - suc b)), e) f
+pub free_begun : (b a : ℕ) → b < a → free_of b a [] ≡ free_of (suc b) a [] ++ b ∷ []
+free_begun b a lt =
+    let e : a - b ≡ suc (a - suc b) = omega (arith, lt) in
+    let f = downward_first b (a - suc b) in
+    rw (append-nil (downward b (a - b)), append-nil (downward (suc b) (a - suc b)), e) f
 
 -- a chunk given back
-pub held-given : (store : List Sound) (given : List ℕ) (b a k : ℕ) → HoldsPool store given b a → k < a → IsOutside k (free_of b a given) → length (free_of b a given) < a → HoldsPool store (given ++ k ∷ []) b a
-held-given store given b a k h lt out room = record {
-  once = rw (free-more b a given k) (distinct_more (free_of b a given) k h.once out);
-  below = λ j lj. grind (arith, h.below j, length-last given k, before_last given k j, at_last given k j, taken-begun b a given k h.within lt out);
+pub held_given : (store : List Sound) (given : List ℕ) (b a k : ℕ) → HoldsPool store given b a → k < a → IsOutside k (free_of b a given) → length (free_of b a given) < a → HoldsPool store (given ++ k ∷ []) b a
+held_given store given b a k h lt out room = record {
+  once = rw (free_more b a given k) (distinct_more (free_of b a given) k h.once out);
+  below = λ j lj. grind (arith, h.below j, length-last given k, before_last given k j, at_last given k j, taken_begun b a given k h.within lt out);
   fewer = let e = length-last given k in let f = length-free b a given in let g = h.within in omega (arith, e, f, g, room);
-  within = h.within; most = h.most; filled = h.filled; short = h.short }
+  within = h.within;
+  most = h.most;
+  filled = h.filled;
+  short = h.short;
+}
 
 -- a chunk that was given back, taken
-pub held-taken : (store : List Sound) (given : List ℕ) (b a k : ℕ) → HoldsPool store (given ++ k ∷ []) b a → HoldsPool store given b a
-held-taken store given b a k h = record {
-  once = distinct_fewer (free_of b a given) k (rw (free-more b a given k) at h.once);
+pub held_taken : (store : List Sound) (given : List ℕ) (b a k : ℕ) → HoldsPool store (given ++ k ∷ []) b a → HoldsPool store given b a
+held_taken store given b a k h = record {
+  once = distinct_fewer (free_of b a given) k (rw (free_more b a given k) at h.once);
   below = λ j lj. let e = h.below j (let g = length-last given k in omega (arith, g, lj)) in let f = before_last given k j lj in omega (arith, e, f);
   fewer = let e = length-last given k in let f = h.fewer in omega (arith, e, f);
-  within = h.within; most = h.most; filled = h.filled; short = h.short }
+  within = h.within;
+  most = h.most;
+  filled = h.filled;
+  short = h.short;
+}
 
-pub chunk-taken : (store : List Sound) (given : List ℕ) (b a k : ℕ) → HoldsPool store (given ++ k ∷ []) b a → (k < a) × IsOutside k (free_of b a given)
-chunk-taken store given b a k h =
-  (let e = h.below (length given) (let g = length-last given k in omega (arith, g)) in let f = at_last given k (length given) refl in let w = h.within in omega (arith, e, f, w),
-   last_outside (free_of b a given) k (rw (free-more b a given k) at h.once))
+pub chunk_taken : (store : List Sound) (given : List ℕ) (b a k : ℕ) → HoldsPool store (given ++ k ∷ []) b a → (k < a) × IsOutside k (free_of b a given)
+chunk_taken store given b a k h = (
+  let e = h.below (length given) (let g = length-last given k in omega (arith, g)) in let f = at_last given k (length given) refl in let w = h.within in omega (arith, e, f, w),
+  last_outside (free_of b a given) k (rw (free_more b a given k) at h.once),
+)
 
 -- a list of which nothing is left
 pub is_nil : (xs : List ℕ) → length xs ≡ 0 → xs ≡ []
@@ -147,44 +163,50 @@ is_nil [] e = refl
 is_nil (x ∷ xs) e = absurd (omega (arith, e))
 
 -- a chunk begun
-pub held-begun : (store : List Sound) (given given' : List ℕ) (b a : ℕ) → HoldsPool store given b a → b ≢ a → given ≡ [] → given' ≡ [] → HoldsPool (padded ((b + 1) * 4096) store) given' (b + 1) a
-held-begun store given given' b a h ne e e' =
-  let w = h.within in
-  let lt : b < a = omega (arith, w, ne) in
-  let n : b + 1 ≡ suc b = omega arith in
-  let f = h.filled in
-  let s = h.short in
-  let l = length-append store (replicate ((b + 1) * 4096 - length store) silence) in
-  let r = length-replicate ((b + 1) * 4096 - length store) silence in
-  let low : (b + 1) * 4096 ≤ length (padded ((b + 1) * 4096) store) = omega (arith, l, r) in
-  let high : length (padded ((b + 1) * 4096) store) ≤ a * 4096 = omega (arith, l, r, s, lt) in
-  record {
-    once = rw (e', n) (distinct_fewer (free_of (suc b) a []) b (rw (e, free-begun b a lt) at h.once));
-    below = λ j lj. absurd (let z : length given' ≡ 0 = ap length e' in omega (arith, z, lj));
-    fewer = let z : length given' ≡ 0 = ap length e' in omega (arith, z);
-    within = omega (arith, lt);
-    most = h.most;
-    filled = low;
-    short = high }
+pub held_begun : (store : List Sound) (given given' : List ℕ) (b a : ℕ) → HoldsPool store given b a → b ≢ a → given ≡ [] → given' ≡ [] → HoldsPool (padded ((b + 1) * 4096) store) given' (b + 1) a
+held_begun store given given' b a h ne e e' =
+    let w = h.within in
+    let lt : b < a = omega (arith, w, ne) in
+    let n : b + 1 ≡ suc b = omega arith in
+    let f = h.filled in
+    let s = h.short in
+    let l = length-append store (replicate ((b + 1) * 4096 - length store) silence) in
+    let r = length-replicate ((b + 1) * 4096 - length store) silence in
+    let low : (b + 1) * 4096 ≤ length (padded ((b + 1) * 4096) store) = omega (arith, l, r) in
+    let high : length (padded ((b + 1) * 4096) store) ≤ a * 4096 = omega (arith, l, r, s, lt) in
+    record {
+      once = rw (e', n) (distinct_fewer (free_of (suc b) a []) b (rw (e, free_begun b a lt) at h.once));
+      below = λ j lj. absurd (let z : length given' ≡ 0 = ap length e' in omega (arith, z, lj));
+      fewer = let z : length given' ≡ 0 = ap length e' in omega (arith, z);
+      within = omega (arith, lt);
+      most = h.most;
+      filled = low;
+      short = high;
+    }
 
 -- the frames of a pool with a chunk begun
 pub padded-begun : (store : List Sound) (b a : ℕ) → b ≤ a → b ≢ a → padded (a * 4096) (padded ((b + 1) * 4096) store) ≡ padded (a * 4096) store
 padded-begun store b a le ne = padded-padded (a * 4096) ((b + 1) * 4096) store (omega (arith, le, ne))
 
 -- the free chunks of a pool with a chunk begun
-pub free-begins : (given given' : List ℕ) (b a : ℕ) → b ≤ a → b ≢ a → given ≡ [] → given' ≡ [] → free_of b a given ≡ free_of (b + 1) a given' ++ b ∷ []
-free-begins given given' b a le ne e e' = let n : b + 1 ≡ suc b = omega arith in rw (e, e', n) (free-begun b a (omega (arith, le, ne)))
+pub free_begins : (given given' : List ℕ) (b a : ℕ) → b ≤ a → b ≢ a → given ≡ [] → given' ≡ [] → free_of b a given ≡ free_of (b + 1) a given' ++ b ∷ []
+free_begins given given' b a le ne e e' = let n : b + 1 ≡ suc b = omega arith in rw (e, e', n) (free_begun b a (omega (arith, le, ne)))
 
-pub chunk-begun : (store : List Sound) (given given' : List ℕ) (b a : ℕ) → HoldsPool store given b a → b ≢ a → given ≡ [] → given' ≡ [] → (b < a) × IsOutside b (free_of (b + 1) a given')
-chunk-begun store given given' b a h ne e e' =
-  let w = h.within in
-  let lt : b < a = omega (arith, w, ne) in
-  let n : b + 1 ≡ suc b = omega arith in
-  (lt, rw (e', n) (last_outside (free_of (suc b) a []) b (rw (e, free-begun b a lt) at h.once)))
+pub chunk_begun : (store : List Sound) (given given' : List ℕ) (b a : ℕ) → HoldsPool store given b a → b ≢ a → given ≡ [] → given' ≡ [] → (b < a) × IsOutside b (free_of (b + 1) a given')
+chunk_begun store given given' b a h ne e e' =
+    let w = h.within in
+    let lt : b < a = omega (arith, w, ne) in
+    let n : b + 1 ≡ suc b = omega arith in
+    (lt, rw (e', n) (last_outside (free_of (suc b) a []) b (rw (e, free_begun b a lt) at h.once)))
 
 pub ruleset pads = (padded-pushed, padded-long)
-pub ruleset news = (length-free, held-new)
+
+pub ruleset news = (length-free, held_new)
+
 pub ruleset counts = (length-free)
-pub ruleset checks = (pool-held)
-pub ruleset reads = (slot-filled, part-filled, get_or-padded)
-pub ruleset writes = (slot-filled, set-padded)
+
+pub ruleset checks = (held_pool)
+
+pub ruleset reads = (slot_filled, part_filled, get_or-padded)
+
+pub ruleset writes = (slot_filled, set-padded)

@@ -2,6 +2,7 @@
 -- A chunk is free, or a tape has it. A frame of a chunk to which nothing was ever written is silence.
 -- "Room" in docs/rules.md.
 use Rattle.std.specs.Prelude.{◌≡◌, ◌≢◌, ◌≤◌, ◌<◌, ℕ, zero, suc, ◌+◌, ◌-◌, ◌*◌, List, [], ◌∷◌, ◌++◌, length, get_or, replicate}
+use Rattle.sl_base.specs.Limits.{chunk_frames, max_chunks}
 use Rattle.sl_base.specs.Sounds.{Sound, silence}
 
 -- what a pool is seen as: the frames of all chunks, one chunk after the other, the numbers of the free chunks, and how
@@ -21,7 +22,7 @@ IsOutside x xs = (j : ℕ) → j < length xs → get_or xs j 0 ≢ x
 
 -- what always holds of a pool: all its frames are there, and the free chunks are its own, each once
 pub record IsPool (p : PoolOf) : Type 0 where
-  pub store : length p.store ≡ p.all * 4096
+  pub store : length p.store ≡ p.all * chunk_frames
   pub inside : (i : ℕ) → i < length p.free → get_or p.free i 0 < p.all
   pub once : AreDistinct p.free
 
@@ -49,6 +50,6 @@ pub record HoldsPool (store : List Sound) (given : List ℕ) (begun all : ℕ) :
   pub below : (j : ℕ) → j < length given → get_or given j 0 < begun
   pub fewer : length given ≤ begun
   pub within : begun ≤ all
-  pub most : all ≤ 32768
-  pub filled : begun * 4096 ≤ length store
-  pub short : length store ≤ all * 4096
+  pub most : all ≤ max_chunks
+  pub filled : begun * chunk_frames ≤ length store
+  pub short : length store ≤ all * chunk_frames

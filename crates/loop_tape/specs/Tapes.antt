@@ -3,6 +3,7 @@
 -- Tapes over one pool have different chunks, and what is done to one leaves every other as it was.
 -- "Room" in docs/rules.md.
 use Rattle.std.specs.Prelude.{◌≡◌, ◌≢◌, ◌≤◌, ◌<◌, ℕ, ◌+◌, ◌*◌, ◌/◌, ◌%◌, List, length, get_or}
+use Rattle.sl_base.specs.Limits.{chunk_frames}
 use Rattle.sl_base.specs.Sounds.{Sound, silence}
 use Rattle.loop_tape.specs.Pools.{PoolOf, AreDistinct}
 
@@ -14,7 +15,7 @@ pub record TapeOf : Type 0 where
 
 -- where an address of a tape lies among the frames of the pool
 abbrev pub slot : List ℕ → ℕ → ℕ
-slot chunks address = get_or chunks (address / 4096) 0 * 4096 + address % 4096
+slot chunks address = get_or chunks (address / chunk_frames) 0 * chunk_frames + address % chunk_frames
 
 -- the frame at an address
 abbrev pub at : TapeOf → PoolOf → ℕ → Sound
@@ -33,7 +34,7 @@ Apart u t = (i j : ℕ) → i < length u.chunks → j < length t.chunks → get_
 
 -- the tape is as long as its chunks say
 abbrev pub IsWhole : TapeOf → Type 0
-IsWhole t = length t.chunks ≡ (t.len + 4095) / 4096
+IsWhole t = length t.chunks ≡ (t.len + 4095) / chunk_frames
 
 -- a tape over the same pool has kept its frames, and has no chunk in common with one that has changed
 pub record Stays (u t' : TapeOf) (p p' : PoolOf) : Type 0 where

@@ -16,6 +16,8 @@ mod filling;
 mod pool;
 mod spans;
 mod tape;
+#[cfg(test)]
+mod tests;
 
 pub use pool::Pool;
 pub use tape::Tape;

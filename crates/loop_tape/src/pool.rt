@@ -2,11 +2,12 @@
 
 ghost use Rattle.std.specs.Prelude.{◌≡◌, ◌≢◌, ◌≤◌, ◌<◌, ◌+◌, ◌*◌, ◌/◌, ◌%◌, ℕ, [], ◌∷◌, ◌++◌, length, get_or, slice_set, take, drop, replicate, MatchOption, IfSome, IfOk};
 ghost use Rattle.std.specs.Vec.{vec_capacity};
+ghost use Rattle.sl_base.specs.Limits.{chunk_frames, max_chunks};
 ghost use Rattle.sl_base.specs.Sounds.{silence};
 ghost use Rattle.loop_tape.specs.Pools.{IsPool, IsTaken, IsOutside};
 
 use crate::filling::fill_to;
-use sl_base::{Frame, Memory};
+use sl_base::{CHUNK_FRAMES, Frame, Memory};
 use std::alloc::Global;
 use std::marker::Model;
 
@@ -35,12 +36,12 @@ impl Pool {
     /// So many chunks, 32768 at most, all free and silent. It takes 32 KiB of memory for each, and touches none of it.
     #[tactic(auto, using(crate::proofs::PoolLemmas::news))]
     pub fn new(alloc: Global, chunks: u32) -> Result<Pool, Memory>
-        requires { chunks ≤ 32768 }
+        requires { chunks ≤ max_chunks }
         ensures all { IfOk result (λ p. p.all ≡ chunks) }
         ensures free { IfOk result (λ p. length p.free ≡ chunks) }
-        ensures silent { IfOk result (λ p. p.store ≡ replicate (chunks * 4096) silence) }
+        ensures silent { IfOk result (λ p. p.store ≡ replicate (chunks * chunk_frames) silence) }
     {
-        let Ok(store) = Vec::with_capacity(alloc, chunks as usize * 4096) else {
+        let Ok(store) = Vec::with_capacity(alloc, chunks as usize * CHUNK_FRAMES as usize) else {
             return Err(Memory);
         };
         let Ok(given) = Vec::with_capacity(alloc, chunks as usize) else {
@@ -59,7 +60,7 @@ impl Pool {
     pub fn fill(&mut self)
         ensures { self.new ≡ self.old }
     {
-        fill_to(&mut self.store, self.all as usize * 4096);
+        fill_to(&mut self.store, self.all as usize * CHUNK_FRAMES as usize);
     }
 
     /// How many chunks are free.
@@ -75,7 +76,7 @@ impl Pool {
     #[tactic(auto, using(crate::proofs::PoolLemmas::checks))]
     pub(crate) fn check(&self)
         ensures pool { IsPool self.now }
-        ensures most { self.now.all ≤ 32768 }
+        ensures most { self.now.all ≤ max_chunks }
     {
         let _all = self.all;
     }
@@ -83,7 +84,7 @@ impl Pool {
     /// The frame that lies here, in a chunk that a tape has.
     #[tactic(auto, using(crate::proofs::PoolLemmas::reads))]
     pub(crate) fn read(&self, slot: usize) -> Frame
-        requires { IsTaken self.now (slot / 4096) }
+        requires { IsTaken self.now (slot / chunk_frames) }
         ensures { result ≡ get_or self.now.store slot silence }
     {
         self.store[slot]
@@ -92,8 +93,8 @@ impl Pool {
     /// So many frames from here on, all in one chunk that a tape has.
     #[tactic(auto, using(crate::proofs::PoolLemmas::reads))]
     pub(crate) fn frames(&self, slot: usize, count: usize) -> &[Frame]
-        requires taken { IsTaken self.now (slot / 4096) }
-        requires within { slot % 4096 + count ≤ 4096 }
+        requires taken { IsTaken self.now (slot / chunk_frames) }
+        requires within { slot % chunk_frames + count ≤ chunk_frames }
         ensures length { length result.now ≡ count }
         ensures value { (k : ℕ) → k < count → get_or result.now k silence ≡ get_or self.now.store (slot + k) silence }
     {
@@ -103,7 +104,7 @@ impl Pool {
     /// Puts a frame here, in a chunk that a tape has.
     #[tactic(auto, using(crate::proofs::PoolLemmas::writes))]
     pub(crate) fn write(&mut self, slot: usize, frame: Frame)
-        requires { IsTaken self.old (slot / 4096) }
+        requires { IsTaken self.old (slot / chunk_frames) }
         ensures { self.new ≡ record { store = slice_set self.old.store slot frame; free = self.old.free; all = self.old.all } }
     {
         self.store[slot] = frame;
@@ -132,7 +133,10 @@ impl Pool {
             return None;
         }
         let chunk = self.begun;
-        fill_to(&mut self.store, (chunk as usize + 1) * 4096);
+        fill_to(
+            &mut self.store,
+            (chunk as usize + 1) * CHUNK_FRAMES as usize,
+        );
         self.begun = chunk + 1;
         Some(chunk)
     }

@@ -1,12 +1,13 @@
 //! Many frames of a tape at once.
 
 ghost use Rattle.std.specs.Prelude.{◌≡◌, ◌≤◌, ◌<◌, ◌+◌, ◌-◌, ◌%◌, ℕ, length, get_or};
+ghost use Rattle.sl_base.specs.Limits.{chunk_frames};
 ghost use Rattle.sl_base.specs.Sounds.{silence};
 ghost use Rattle.loop_tape.specs.Tapes.{at, Owns};
 
 use crate::pool::Pool;
 use crate::tape::Tape;
-use sl_base::Frame;
+use sl_base::{CHUNK_FRAMES, Frame};
 
 impl Tape {
     /// Copies the frames from an address on, all in one chunk.
@@ -15,7 +16,7 @@ impl Tape {
         requires owns { Owns self.now pool.now }
         requires some { 0 < length out.old }
         requires below { address + length out.old ≤ self.now.len }
-        requires within { address % 4096 + length out.old ≤ 4096 }
+        requires within { address % chunk_frames + length out.old ≤ chunk_frames }
         ensures { (k : ℕ) → k < length out.old → get_or out.new k silence ≡ at self.now pool.now (address + k) }
     {
         let slot = self.slot_of(pool, address);
@@ -33,7 +34,7 @@ impl Tape {
         let mut done = 0;
         while done < out.len() {
             let from = address + done as u32;
-            let count = (out.len() - done).min(4096 - (from % 4096) as usize);
+            let count = (out.len() - done).min((CHUNK_FRAMES - from % CHUNK_FRAMES) as usize);
             self.read_part(pool, from, &mut out[done..done + count]);
             done += count;
         }
@@ -45,7 +46,7 @@ impl Tape {
         requires owns { Owns self.now pool.now }
         requires some { 0 < length out.old }
         requires below { address < self.now.len }
-        requires within { length out.old ≤ address % 4096 + 1 }
+        requires within { length out.old ≤ address % chunk_frames + 1 }
         ensures { (k : ℕ) → k < length out.old → get_or out.new k silence ≡ at self.now pool.now (address - k) }
     {
         let slot = self.slot_of(pool, address);
@@ -67,7 +68,7 @@ impl Tape {
         let mut done = 0;
         while done < out.len() {
             let from = address - done as u32;
-            let count = (out.len() - done).min((from % 4096) as usize + 1);
+            let count = (out.len() - done).min((from % CHUNK_FRAMES) as usize + 1);
             self.read_part_backward(pool, from, &mut out[done..done + count]);
             done += count;
         }

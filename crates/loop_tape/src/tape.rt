@@ -2,12 +2,13 @@
 
 ghost use Rattle.std.specs.Prelude.{◌≡◌, ◌≢◌, ◌≤◌, ◌<◌, ◌+◌, ◌-◌, ◌*◌, ◌/◌, ◌%◌, ℕ, [], ◌∷◌, ◌++◌, length, get_or, slice_set, IfOk, IsTrue, IsFalse, ◌↔◌};
 ghost use Rattle.std.specs.Vec.{vec_capacity};
+ghost use Rattle.sl_base.specs.Limits.{chunk_frames, max_chunks};
 ghost use Rattle.sl_base.specs.Sounds.{silence};
 ghost use Rattle.loop_tape.specs.Pools.{PoolOf, IsPool, IsTaken};
 ghost use Rattle.loop_tape.specs.Tapes.{TapeOf, slot, at, Owns, OthersStay, IsWhole, Pushed, Cut, IsSet};
 
 use crate::pool::Pool;
-use sl_base::{Frame, Memory};
+use sl_base::{CHUNK_FRAMES, Frame, Memory};
 use std::alloc::Global;
 use std::marker::Model;
 
@@ -22,19 +23,20 @@ pub struct Tape {
 impl Model for Tape {
     ghost use Rattle.std.specs.Prelude.{◌≡◌, ◌≤◌, ◌+◌, ◌/◌, length};
     ghost use Rattle.std.specs.Vec.{vec_capacity};
+    ghost use Rattle.sl_base.specs.Limits.{chunk_frames, max_chunks};
     ghost use Rattle.loop_tape.specs.Tapes.{TapeOf};
 
     ghost Value = { TapeOf };
 
     ghost view = { λ t. record { chunks = t.chunks.items; len = t.len; room = t.room } };
 
-    ghost invariant = { λ t. (length t.chunks.items ≡ (t.len + 4095) / 4096) × (length t.chunks.items ≤ t.room) × (t.room ≤ vec_capacity t.chunks) × (t.room ≤ 32768) };
+    ghost invariant = { λ t. (length t.chunks.items ≡ (t.len + 4095) / chunk_frames) × (length t.chunks.items ≤ t.room) × (t.room ≤ vec_capacity t.chunks) × (t.room ≤ max_chunks) };
 }
 
 impl Tape {
     /// An empty tape with room for so many chunks, 32768 at most.
     pub fn new(alloc: Global, chunks: u32) -> Result<Tape, Memory>
-        requires { chunks ≤ 32768 }
+        requires { chunks ≤ max_chunks }
         ensures { IfOk result (λ t. t ≡ record { chunks = []; len = 0; room = chunks }) }
     {
         match Vec::with_capacity(alloc, chunks as usize) {
@@ -50,7 +52,7 @@ impl Tape {
     /// What always holds of a tape.
     pub fn check(&self)
         ensures whole { IsWhole self.now }
-        ensures within { length self.now.chunks ≤ 32768 }
+        ensures within { length self.now.chunks ≤ max_chunks }
         ensures short { self.now.len ≤ 134217728 }
     {
         let _length = self.len;
@@ -60,7 +62,7 @@ impl Tape {
     pub fn len(&self) -> u32
         ensures value { result ≡ self.now.len }
         ensures whole { IsWhole self.now }
-        ensures within { length self.now.chunks ≤ 32768 }
+        ensures within { length self.now.chunks ≤ max_chunks }
         ensures short { self.now.len ≤ 134217728 }
     {
         self.len
@@ -72,10 +74,11 @@ impl Tape {
         requires owns { Owns self.now pool.now }
         requires below { address < self.now.len }
         ensures value { result ≡ slot self.now.chunks address }
-        ensures taken { IsTaken pool.now (result / 4096) }
+        ensures taken { IsTaken pool.now (result / chunk_frames) }
         ensures whole { IsWhole self.now }
     {
-        self.chunks[(address / 4096) as usize] as usize * 4096 + (address % 4096) as usize
+        self.chunks[(address / CHUNK_FRAMES) as usize] as usize * CHUNK_FRAMES as usize
+            + (address % CHUNK_FRAMES) as usize
     }
 
     /// The frame at an address.
@@ -104,11 +107,12 @@ impl Tape {
     #[tactic(auto, using(crate::proofs::SlotLemmas::pushes))]
     fn push_within(&mut self, pool: &mut Pool, frame: Frame)
         requires owns { Owns self.old pool.old }
-        requires within { self.old.len % 4096 ≢ 0 }
+        requires within { self.old.len % chunk_frames ≢ 0 }
         ensures { Pushed self.old self.new pool.old pool.new frame }
     {
         pool.check();
-        let slot = self.chunks[(self.len / 4096) as usize] as usize * 4096 + (self.len % 4096) as usize;
+        let slot = self.chunks[(self.len / CHUNK_FRAMES) as usize] as usize * CHUNK_FRAMES as usize
+            + (self.len % CHUNK_FRAMES) as usize;
         pool.write(slot, frame);
         self.len += 1;
     }
@@ -117,7 +121,7 @@ impl Tape {
     #[tactic(auto, using(crate::proofs::SlotLemmas::pushes))]
     fn push_chunk(&mut self, pool: &mut Pool, frame: Frame) -> bool
         requires owns { Owns self.old pool.old }
-        requires whole { self.old.len % 4096 ≡ 0 }
+        requires whole { self.old.len % chunk_frames ≡ 0 }
         ensures full { IsFalse result → (self.new ≡ self.old) × (pool.new ≡ pool.old) }
         ensures free { IsFalse result ↔ (length pool.old.free ≡ 0) }
         ensures pushed { IsTrue result → Pushed self.old self.new pool.old pool.new frame }
@@ -127,7 +131,7 @@ impl Tape {
             None => false,
             Some(chunk) => {
                 self.chunks.push_reserved(chunk);
-                pool.write(chunk as usize * 4096, frame);
+                pool.write(chunk as usize * CHUNK_FRAMES as usize, frame);
                 self.len += 1;
                 true
             }
@@ -137,11 +141,11 @@ impl Tape {
     /// Puts a frame behind the others. False where that needs a chunk and none is free.
     pub fn push(&mut self, pool: &mut Pool, frame: Frame) -> bool
         requires owns { Owns self.old pool.old }
-        ensures full { IsFalse result ↔ ((self.old.len % 4096 ≡ 0) × (length pool.old.free ≡ 0)) }
+        ensures full { IsFalse result ↔ ((self.old.len % chunk_frames ≡ 0) × (length pool.old.free ≡ 0)) }
         ensures unchanged { IsFalse result → (self.new ≡ self.old) × (pool.new ≡ pool.old) }
         ensures ok { IsTrue result → Pushed self.old self.new pool.old pool.new frame }
     {
-        if self.len % 4096 == 0 {
+        if self.len % CHUNK_FRAMES == 0 {
             return self.push_chunk(pool, frame);
         }
         self.push_within(pool, frame);
@@ -153,7 +157,7 @@ impl Tape {
     fn give_chunk(&mut self, pool: &mut Pool)
         requires owns { Owns self.old pool.old }
         requires some { 0 < self.old.len }
-        ensures len { self.new.len ≡ (self.old.len - 1) / 4096 * 4096 }
+        ensures len { self.new.len ≡ (self.old.len - 1) / chunk_frames * chunk_frames }
         ensures cut { Cut self.old self.new pool.old pool.new }
     {
         pool.check();
@@ -161,7 +165,7 @@ impl Tape {
             None => {}
             Some(chunk) => {
                 pool.give(chunk);
-                self.len = (self.len - 1) / 4096 * 4096;
+                self.len = (self.len - 1) / CHUNK_FRAMES * CHUNK_FRAMES;
             }
         }
     }
@@ -176,7 +180,7 @@ impl Tape {
         ensures cut { Cut self.old self.new pool.old pool.new }
     {
         let _length = self.len;
-        while self.len > length && (self.len - 1) / 4096 * 4096 >= length {
+        while self.len > length && (self.len - 1) / CHUNK_FRAMES * CHUNK_FRAMES >= length {
             self.give_chunk(pool);
         }
         self.len = length;

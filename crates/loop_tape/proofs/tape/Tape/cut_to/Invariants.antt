@@ -1,4 +1,4 @@
-use Rattle.std.proofs.Common.{◌≡◌, ◌≤◌}
+use Rattle.std.proofs.Common.{◌≤◌}
 use Rattle.loop_tape.specs.Tapes.{Cut}
 use Rattle.loop_tape.proofs.tape.Tape.cut_to.Given as goal
 

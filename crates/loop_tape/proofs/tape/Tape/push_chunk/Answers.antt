@@ -1,5 +1,4 @@
-use Rattle.std.proofs.Common.{rules, arith, ◌≡◌, ◌≤◌}
-use Rattle.std.proofs.lemmas.Grind.{common_steps}
+use Rattle.std.proofs.Common.{rules}
 use Rattle.loop_tape.proofs.SlotLemmas.{pushed_new}
 use Rattle.loop_tape.proofs.tape.Tape.push_chunk.Goals as goal
 

@@ -1,4 +1,4 @@
-use Rattle.std.proofs.Common.{◌≡◌, ◌≤◌, ◌<◌, ◌+◌, ◌-◌, ℕ, length, get_or}
+use Rattle.std.proofs.Common.{◌≡◌, ◌≤◌, ◌<◌, ◌-◌, ℕ, length, get_or}
 use Rattle.sl_base.specs.Sounds.{silence}
 use Rattle.loop_tape.specs.Tapes.{at}
 use Rattle.loop_tape.proofs.tape.Tape.read_backward.Given as goal
