@@ -5,3 +5,4 @@ pub mod Loops
 pub mod Frames
 pub mod Tracks
 pub mod Refusals
+pub mod Unwritten

@@ -2,6 +2,7 @@
 -- current one, and the redo layers. They stand in a row by age: the redo layers, the last one first, the current layer,
 -- and those below it. Undo and redo go along this row. Closing an empty Recording takes the current layer out of it.
 -- An opening puts a new layer on the current one, and drops the redo layers, all of them.
+-- A frame outside a writing mode keeps every list, and so does one that ends WaitStart, but for the layer that it opens.
 -- "Layers" and "History: undo and redo" in docs/rules.md.
 use Rattle.std.specs.Prelude.{◌≡◌, ◌⊎◌, ◌+◌, ◌≤◌, min, ⊤, List, [], ◌∷◌, ◌++◌, length}
 use Rattle.sl_base.specs.Limits.{max_value}
@@ -42,6 +43,13 @@ abbrev pub OthersStayOnAll : List Track → List Track → Type 0
 OthersStayOnAll [] [] = ⊤
 OthersStayOnAll (t ∷ ts) (u ∷ us) = OthersStay t.loop.stack u.loop.stack × OthersStayOnAll ts us
 OthersStayOnAll _ _ = ⊥
+
+-- layers, redo layers, tape and pin stay: nothing is written, opened or closed
+pub record KeepsLists {A : Type 0} (old new : Stack A) : Type 0 where
+  pub layers : new.layers ≡ old.layers
+  pub redo : new.redo ≡ old.redo
+  pub tape : new.tape ≡ old.tape
+  pub pin : new.pin ≡ old.pin
 
 -- one refusal more, and nothing else
 pub record CountsRefusal {A : Type 0} (old new : Loop A) : Type 0 where

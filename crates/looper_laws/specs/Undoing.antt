@@ -2,18 +2,20 @@
 -- by multiply and insert), once an open layer is closed. The layer
 -- stays open through frames after which the mode is still a writing one, through saves, and through whatever leaves mode
 -- and layers as they are: sets and gets, releases, presses, a verb that begins to wait, a turn of the direction.
--- Undo closes an open layer before it moves it: no cell is fresh any more, base and base seams are gone, it ends at the
--- tape, and it has the seams that it had.
+-- Undo closes an open layer before it moves it: it has its list still, cut to pos frames where a Multiplying has gone beyond
+-- its base, and its cycle, or its length where it had none; no cell is fresh any more, base and base seams are gone, it
+-- ends at the tape, and it has the seams that it had.
 -- "Opening" and "History: undo and redo" in docs/rules.md.
-use Rattle.std.specs.Prelude.{◌≡◌, ℕ, Bool, false, IsTrue, List, [], ◌∷◌, Option, Some, None}
+use Rattle.std.specs.Prelude.{◌≡◌, ℕ, Bool, false, IsTrue, List, [], ◌∷◌, length, Option, Some, None}
 use Rattle.sl_base.specs.Sounds.{Sound}
 use Rattle.sl_commands.specs.declared.Verb.{Verb}
 use Rattle.sl_commands.specs.declared.Verb.TheVariants.{Overdub, Multiply, Insert, Replace, Substitute}
 use Rattle.sl_commands.specs.declared.Mode.{Mode}
 use Rattle.sl_commands.specs.declared.Mode.TheVariants.{Overdubbing, Multiplying, Inserting, Replacing, Substituting}
 use Rattle.sl_commands.specs.declared.Started.TheVariants.{Ok}
-use Rattle.looper_rules.specs.Layers.{Layer, unmarked}
-use Rattle.looper_rules.specs.Loop.{Loop, is_writing, with_stack}
+use Rattle.looper_rules.specs.Layers.{Layer, contents, unmarked}
+use Rattle.looper_rules.specs.Loop.{Loop, is_writing, base_length_of, with_stack}
+use Rattle.looper_rules.specs.Closing.{cut_cells, closing_cycle, multiply_cut}
 use Rattle.looper_rules.specs.Starting.{records, layers_on}
 use Rattle.looper_rules.specs.LoopFrame.{frame_later}
 use Rattle.looper_rules.specs.Saves.{pinned}
@@ -41,19 +43,30 @@ pub data StaysOpen (first : Loop Sound) : Loop Sound → Type 0 where
   aside : (now next : Loop Sound) → StaysOpen first now →
       next.deck.mode ≡ now.deck.mode → next.stack.layers ≡ now.stack.layers → StaysOpen first next
 
--- a layer that was open, closed on a tape of this length
-pub record IsClosedOn (tape : ℕ) (was now : Layer Sound) : Type 0 where
+-- where a loop in this mode, at this place over a base of this length, cuts its list as it closes
+abbrev pub closing_cut : Mode → ℕ → ℕ → Option ℕ
+closing_cut Multiplying place base = multiply_cut place base
+closing_cut _ place base = None
+
+-- where a loop cuts its list as it closes
+abbrev pub cut_of : Loop Sound → Option ℕ
+cut_of l = closing_cut l.deck.mode l.deck.pos (base_length_of l)
+
+-- a layer that was open, closed on a tape of this length, its list cut there
+pub record IsClosedOn (cut : Option ℕ) (tape : ℕ) (was now : Layer Sound) : Type 0 where
+  pub list : contents now.cells ≡ contents (cut_cells cut was.cells)
+  pub cycle : now.cycle ≡ closing_cycle was.cycle (length now.cells)
   pub not_fresh : now.cells ≡ unmarked now.cells
   pub no_base : now.base ≡ []
   pub no_base_seams : now.base_seams ≡ 0
   pub end : now.end ≡ tape
   pub seams : now.seams ≡ was.seams
 
--- the current one of these layers, closed on a tape of this length, stands on the others
-pub record StandsClosed (tape : ℕ) (was now : List (Layer Sound)) : Type 0 where
+-- the current one of these layers, cut there and closed on a tape of this length, stands on the others
+pub record StandsClosed (cut : Option ℕ) (tape : ℕ) (was now : List (Layer Sound)) : Type 0 where
   pub opened : Layer Sound
   pub closed : Layer Sound
   pub below : List (Layer Sound)
   pub before : was ≡ opened ∷ below
   pub after : now ≡ closed ∷ below
-  pub closes : IsClosedOn tape opened closed
+  pub closes : IsClosedOn cut tape opened closed

@@ -36,7 +36,8 @@ pub use one_loop_law::{
     hits_that_record_once_are_a_journal, the_single_loop_is_a_looper_of_one_loop,
 };
 pub use other_layers::{
-    a_get_changes_nothing, a_refused_opening_is_counted_alone, only_the_current_layer_changes,
+    a_frame_outside_a_writing_mode_keeps_every_list, a_get_changes_nothing,
+    a_refused_opening_is_counted_alone, only_the_current_layer_changes,
 };
 pub use reached::{
     a_closing_keeps_the_loop, a_frame_keeps_the_loop, a_frame_keeps_the_looper,
@@ -65,6 +66,7 @@ pub use standing_pins::{
     standing_pins_are_of_unanswered_saves,
 };
 pub use undoing::{
-    a_writing_verb_opens_a_loop, redo_gives_back_the_layer_that_undo_moved,
+    a_closed_layer_keeps_its_list, a_verb_leaves_wait_start_first, a_writing_verb_opens_a_loop,
+    redo_gives_back_the_layer_that_undo_moved, undo_and_redo_move_one_layer,
     undo_gives_back_the_list_before_an_opening,
 };

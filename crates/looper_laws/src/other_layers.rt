@@ -1,6 +1,6 @@
 //! Frames and commands change at most the current layer of a loop. Gets change nothing, and a refused opening next to it.
 
-ghost use Rattle.std.specs.Prelude.{◌≡◌, ◌≢◌, ◌≤◌, ℕ, true, false, Some};
+ghost use Rattle.std.specs.Prelude.{◌≡◌, ◌≢◌, ◌≤◌, ◌<◌, ℕ, true, false, IsFalse, length, Some};
 ghost use Rattle.sl_base.specs.Sounds.{Sound, loudness};
 ghost use Rattle.sl_commands.specs.declared.Verb.{Verb};
 ghost use Rattle.sl_commands.specs.declared.Verb.TheVariants.{Rec};
@@ -11,8 +11,9 @@ ghost use Rattle.sl_commands.specs.declared.Control.{Control};
 ghost use Rattle.sl_commands.specs.declared.Target.{Target};
 ghost use Rattle.sl_commands.specs.declared.Command.TheVariants.{Get, GetGlobal, Quit};
 ghost use Rattle.sl_commands.specs.declared.Entry.{Entry};
+ghost use Rattle.looper_rules.specs.Layers.{without_current};
 ghost use Rattle.looper_rules.specs.Opening.{opening};
-ghost use Rattle.looper_rules.specs.Loop.{Loop, refused_once};
+ghost use Rattle.looper_rules.specs.Loop.{Loop, is_writing, refused_once};
 ghost use Rattle.looper_rules.specs.History.{settled};
 ghost use Rattle.looper_rules.specs.Starting.{starts_record, starts, leaves_wait};
 ghost use Rattle.looper_rules.specs.Verbs.{acts};
@@ -21,7 +22,7 @@ ghost use Rattle.looper_rules.specs.Looper.{Looper};
 ghost use Rattle.looper_rules.specs.Entries.{applied};
 ghost use Rattle.looper_rules.specs.Frame.{at_boundaries, framed};
 ghost use Rattle.looper_laws.specs.Undoing.{opens_as};
-ghost use Rattle.looper_laws.specs.OtherLayers.{OthersStay, OthersStayOnAll, CountsRefusal};
+ghost use Rattle.looper_laws.specs.OtherLayers.{OthersStay, OthersStayOnAll, KeepsLists, CountsRefusal};
 
 /// The layers that aren't the current one stay as they are, in their order, but for the redo layers that an opening drops.
 pub fn only_the_current_layer_changes()
@@ -58,8 +59,28 @@ pub fn a_refused_opening_is_counted_alone()
         opens_as verb l.deck.backward ≡ Some mode → l.deck.mode ≢ mode → l.deck.mode ≢ Off → l.deck.mode ≢ WaitStart →
         (settled l).deck.mode ≢ Off → opening reach false (settled l).stack ≢ Granted → CountsRefusal (settled l) (acts verb reach l) }
 
+    // In WaitStart the verb leaves it first.
+    ensures waiting_verbs { (verb : Verb) → (mode : Mode) → (reach : ℕ) → (l : Loop Sound) →
+        opens_as verb l.deck.backward ≡ Some mode → l.deck.mode ≡ WaitStart → 1 ≤ length l.stack.layers →
+        opening reach false l.stack ≢ Granted → CountsRefusal (leaves_wait l) (acts verb reach l) }
+
     // A loud frame leaves WaitStart behind it.
     ensures loud { (x : Sound) → (reach : ℕ) → (l : Loop Sound) → l.deck.mode ≡ WaitStart →
         l.controls.rec_thresh ≤ loudness x → opening reach true l.stack ≢ Granted →
         awake x reach l ≡ leaves_wait (refused_once l) }
+{}
+
+/// A frame outside a writing mode keeps every list. In WaitStart it changes nothing where it isn't loud enough; where it is, and
+/// a layer is opened, all lists stay below it.
+pub fn a_frame_outside_a_writing_mode_keeps_every_list()
+    ensures others { (x : Sound) → (reach : ℕ) → (l : Loop Sound) → IsFalse (is_writing l.deck.mode) → l.deck.mode ≢ WaitStart →
+        KeepsLists l.stack (frame_later x reach l).stack }
+    ensures waiting { (x : Sound) → (reach : ℕ) → (l : Loop Sound) → l.deck.mode ≡ WaitStart →
+        loudness x < l.controls.rec_thresh → frame_later x reach l ≡ l }
+    ensures refused { (x : Sound) → (reach : ℕ) → (l : Loop Sound) → l.deck.mode ≡ WaitStart →
+        l.controls.rec_thresh ≤ loudness x → opening reach true l.stack ≢ Granted →
+        KeepsLists l.stack (frame_later x reach l).stack }
+    ensures opened { (x : Sound) → (reach : ℕ) → (l : Loop Sound) → l.deck.mode ≡ WaitStart →
+        l.controls.rec_thresh ≤ loudness x → opening reach true l.stack ≡ Granted →
+        without_current (frame_later x reach l).stack.layers ≡ l.stack.layers }
 {}

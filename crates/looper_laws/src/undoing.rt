@@ -10,10 +10,12 @@ ghost use Rattle.sl_commands.specs.declared.Started.TheVariants.{Ok as Granted};
 ghost use Rattle.looper_rules.specs.Layers.{current_list};
 ghost use Rattle.looper_rules.specs.Opening.{opening};
 ghost use Rattle.looper_rules.specs.Loop.{Loop, is_writing, length_of};
-ghost use Rattle.looper_rules.specs.History.{settled};
+ghost use Rattle.looper_rules.specs.Closing.{closed};
+ghost use Rattle.looper_rules.specs.Starting.{leaves_wait};
+ghost use Rattle.looper_rules.specs.History.{settled, undone, redone};
 ghost use Rattle.looper_rules.specs.Verbs.{acts};
 ghost use Rattle.looper_rules.specs.LoopFrame.{awake, frame_later};
-ghost use Rattle.looper_laws.specs.Undoing.{opens_as, IsOpenedFrom, StaysOpen, StandsClosed};
+ghost use Rattle.looper_laws.specs.Undoing.{opens_as, cut_of, IsOpenedFrom, StaysOpen, StandsClosed};
 
 /// A writing verb opens the loop, once its open layer is closed, where the opening is granted and the mode isn't the
 /// verb's own. A loud frame opens a loop in WaitStart.
@@ -27,6 +29,11 @@ pub fn a_writing_verb_opens_a_loop()
         (settled l).deck.mode ≢ Off → opening reach false (settled l).stack ≡ Granted → IsOpenedFrom (settled l) (acts verb reach l) }
     ensures loud { (x : Sound) → (reach : ℕ) → (l : Loop Sound) → l.deck.mode ≡ WaitStart →
         l.controls.rec_thresh ≤ loudness x → opening reach true l.stack ≡ Granted → IsOpenedFrom l (awake x reach l) }
+
+    // In WaitStart each of the others leaves it first.
+    ensures waiting { (verb : Verb) → (mode : Mode) → (reach : ℕ) → (l : Loop Sound) → opens_as verb l.deck.backward ≡ Some mode →
+        l.deck.mode ≡ WaitStart → 1 ≤ length l.stack.layers → opening reach false l.stack ≡ Granted →
+        IsOpenedFrom (leaves_wait l) (acts verb reach l) }
 
     // That frame is the open loop's first one.
     ensures goes_on { (x : Sound) → (reach : ℕ) → (l : Loop Sound) → l.deck.mode ≡ WaitStart →
@@ -51,5 +58,27 @@ pub fn redo_gives_back_the_layer_that_undo_moved()
 
     // An open layer comes back closed.
     ensures closed { (reach more : ℕ) → (l : Loop Sound) → IsTrue (is_writing l.deck.mode) → 1 ≤ length_of l →
-        StandsClosed l.stack.tape l.stack.layers (acts Redo more (acts Undo reach l)).stack.layers }
+        StandsClosed (cut_of l) l.stack.tape l.stack.layers (acts Redo more (acts Undo reach l)).stack.layers }
+{}
+
+/// In every mode undo moves the current layer, once an open one is closed, to the redo layers, and redo moves the next one
+/// back. Both leave all other layers, the tape and the pin as they are.
+pub fn undo_and_redo_move_one_layer()
+    ensures undo { (reach : ℕ) → (l : Loop Sound) → (acts Undo reach l).stack ≡ undone (settled l).stack }
+    ensures redo { (reach : ℕ) → (l : Loop Sound) → (acts Redo reach l).stack ≡ redone l.stack }
+{}
+
+/// A layer that is closed, of a list that isn't empty, stands on the others as they were. It has its list still, but that a
+/// Multiplying beyond its base cuts it to pos frames, and its cycle, or its length where it had none.
+pub fn a_closed_layer_keeps_its_list()
+    ensures { (l : Loop Sound) → IsTrue (is_writing l.deck.mode) → 1 ≤ length_of l →
+        StandsClosed (cut_of l) l.stack.tape l.stack.layers (closed l).stack.layers }
+{}
+
+/// In WaitStart `record` only leaves it, and every other verb does what it does behind it.
+pub fn a_verb_leaves_wait_start_first()
+    ensures recording { (reach : ℕ) → (l : Loop Sound) → l.deck.mode ≡ WaitStart → acts Rec reach l ≡ leaves_wait l }
+    ensures others { (verb : Verb) → (reach : ℕ) → (l : Loop Sound) → l.deck.mode ≡ WaitStart → verb ≢ Rec →
+        acts verb reach l ≡ acts verb reach (leaves_wait l) }
+    ensures stack { (l : Loop Sound) → (leaves_wait l).stack ≡ l.stack }
 {}

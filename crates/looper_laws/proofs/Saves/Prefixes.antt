@@ -219,7 +219,7 @@ part_comes {bound = bound} {b = b} {sent = sent} save index part h may =
     let there = place_for b.target b.loops index has.0 in
     let k : ℕ = there.0 in
     let room = has_room h index (length part) k there.1 few (goes_on_or_begins b index (length part) goes.1) in
-    let inside : k < length h.lists = subst (λ n. k < n) (sym h.count) there.2 in
+    let inside : k < length h.lists = (let total = h.count in let below : k < list_count b.target b.loops = there.2 in omega arith) in
     let head = Head (length h.saves) h.name b.target h.settings in
     let parts = parts_of_lists (length h.saves) (first_index b.target) h.lists in
     let grown : parts_of_lists (length h.saves) (first_index b.target) (put_at k part h.lists) ≡ parts ++ Part (length h.saves) (first_index b.target + k) part ∷ [] =

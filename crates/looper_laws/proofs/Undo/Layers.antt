@@ -6,15 +6,15 @@ use Rattle.sl_base.specs.Sounds.{Sound}
 use Rattle.sl_commands.specs.declared.Verb.TheVariants.{Undo, Redo}
 use Rattle.sl_commands.specs.declared.Mode.{Mode}
 use Rattle.sl_commands.specs.declared.Mode.TheVariants.{Recording, Multiplying}
-use Rattle.looper_rules.specs.Layers.{Layer, with_current, without_current, current_length}
+use Rattle.looper_rules.specs.Layers.{Layer, contents, with_current, without_current, current_length}
 use Rattle.looper_rules.specs.Stack.{Stack}
 use Rattle.looper_rules.specs.Loop.{Loop, is_writing, length_of, base_length_of}
-use Rattle.looper_rules.specs.Closing.{cut_cells, finished_layer, closed_recording, multiply_cut, closed_from}
+use Rattle.looper_rules.specs.Closing.{cut_cells, closing_cycle, finished_layer, closed_recording, multiply_cut, closed_from}
 use Rattle.looper_rules.specs.History.{undone_from, redone, closed_if, settled}
 use Rattle.looper_rules.specs.Verbs.{acts}
 use Rattle.looper_rules.specs.Saves.{pinned}
-use Rattle.looper_laws.specs.Undoing.{IsOpenedFrom, for_record, for_mode, StaysOpen, at_once, through_frame, through_save, aside, StandsClosed}
-use Rattle.looper_laws.proofs.Kept.Layers.{unmarked-unmarked}
+use Rattle.looper_laws.specs.Undoing.{IsOpenedFrom, for_record, for_mode, StaysOpen, at_once, through_frame, through_save, aside, closing_cut, cut_of, StandsClosed}
+use Rattle.looper_laws.proofs.Kept.Layers.{contents-old_cells, length-unmarked, unmarked-unmarked}
 use Rattle.looper_laws.proofs.Others.Stacks.{IsTouched}
 use Rattle.looper_laws.proofs.Others.Steps.{finished_touched, pinned_touched}
 use Rattle.looper_laws.proofs.Undo.Openings.{acts_undo_stack, acts_redo_stack}
@@ -79,7 +79,7 @@ redo_undo reach more l some =
     acts_redo_stack more (acts Undo reach l) ∙ (ap redone (acts_undo_stack reach l) ∙ redone_undone (settled l).stack.layers (settled l).stack some)
 
 -- closing a list that isn't empty leaves its layer closed on the others
-finished_stands : (cut : Option ℕ) (tape : ℕ) (layers : List (Layer Sound)) → 1 ≤ current_length layers → StandsClosed tape layers (with_current (finished_layer cut tape) layers)
+finished_stands : (cut : Option ℕ) (tape : ℕ) (layers : List (Layer Sound)) → 1 ≤ current_length layers → StandsClosed cut tape layers (with_current (finished_layer cut tape) layers)
 finished_stands cut tape [] some = absurd (let none : ⊥ = omega arith in none)
 finished_stands cut tape (l ∷ ls) some =
     record {
@@ -88,26 +88,26 @@ finished_stands cut tape (l ∷ ls) some =
       below = ls;
       before = refl;
       after = refl;
-      closes = record { not_fresh = unmarked-unmarked (cut_cells cut l.cells); no_base = refl; no_base_seams = refl; end = refl; seams = refl };
+      closes = record { list = contents-old_cells (contents (cut_cells cut l.cells)); cycle = ap (closing_cycle l.cycle) (sym (length-unmarked (cut_cells cut l.cells))); not_fresh = unmarked-unmarked (cut_cells cut l.cells); no_base = refl; no_base_seams = refl; end = refl; seams = refl };
     }
 
-recording_stands : (empty single : Bool) (l : Loop Sound) → empty ≡ false → 1 ≤ length_of l → StandsClosed l.stack.tape l.stack.layers (closed_recording empty single l).stack.layers
+recording_stands : (empty single : Bool) (l : Loop Sound) → empty ≡ false → 1 ≤ length_of l → StandsClosed None l.stack.tape l.stack.layers (closed_recording empty single l).stack.layers
 recording_stands true single l is some = absurd (let none : ⊥ = Prim.cc in none)
 recording_stands false single l is some = finished_stands None l.stack.tape l.stack.layers some
 
-closed_stands : (mode : Mode) (l : Loop Sound) → 1 ≤ length_of l → StandsClosed l.stack.tape l.stack.layers (closed_from mode l).stack.layers
+pub closed_stands : (mode : Mode) (l : Loop Sound) → 1 ≤ length_of l → StandsClosed (closing_cut mode l.deck.pos (base_length_of l)) l.stack.tape l.stack.layers (closed_from mode l).stack.layers
 closed_stands Recording l some = recording_stands (length_of l == 0) (nat_le (length l.stack.layers) 1) l (not_zero (length_of l) some) some
 closed_stands Multiplying l some = finished_stands (multiply_cut l.deck.pos (base_length_of l)) l.stack.tape l.stack.layers some
 closed_stands _ l some = finished_stands None l.stack.tape l.stack.layers some
 
-settled_stands : (l : Loop Sound) → is_writing l.deck.mode ≡ true → 1 ≤ length_of l → StandsClosed l.stack.tape l.stack.layers (settled l).stack.layers
-settled_stands l writing some = subst (λ is. StandsClosed l.stack.tape l.stack.layers (closed_if is l).stack.layers) (sym writing) (closed_stands l.deck.mode l some)
+pub settled_stands : (l : Loop Sound) → is_writing l.deck.mode ≡ true → 1 ≤ length_of l → StandsClosed (cut_of l) l.stack.tape l.stack.layers (settled l).stack.layers
+settled_stands l writing some = subst (λ is. StandsClosed (cut_of l) l.stack.tape l.stack.layers (closed_if is l).stack.layers) (sym writing) (closed_stands l.deck.mode l some)
 
-stands_some : (tape : ℕ) (was now : List (Layer Sound)) → StandsClosed tape was now → 1 ≤ length now
-stands_some tape was now h = rw h.after (omega arith)
+stands_some : (cut : Option ℕ) (tape : ℕ) (was now : List (Layer Sound)) → StandsClosed cut tape was now → 1 ≤ length now
+stands_some cut tape was now h = rw h.after (omega arith)
 
-pub redo_undo_stands : (reach more : ℕ) (l : Loop Sound) → is_writing l.deck.mode ≡ true → 1 ≤ length_of l → StandsClosed l.stack.tape l.stack.layers (acts Redo more (acts Undo reach l)).stack.layers
+pub redo_undo_stands : (reach more : ℕ) (l : Loop Sound) → is_writing l.deck.mode ≡ true → 1 ≤ length_of l → StandsClosed (cut_of l) l.stack.tape l.stack.layers (acts Redo more (acts Undo reach l)).stack.layers
 redo_undo_stands reach more l writing some =
     let stands = settled_stands l writing some
-    in let count = stands_some l.stack.tape l.stack.layers (settled l).stack.layers stands
-    in subst (λ (s : Stack Sound). StandsClosed l.stack.tape l.stack.layers s.layers) (sym (redo_undo reach more l count)) stands
+    in let count = stands_some (cut_of l) l.stack.tape l.stack.layers (settled l).stack.layers stands
+    in subst (λ (s : Stack Sound). StandsClosed (cut_of l) l.stack.tape l.stack.layers s.layers) (sym (redo_undo reach more l count)) stands

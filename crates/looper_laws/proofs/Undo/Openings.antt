@@ -1,12 +1,12 @@
 -- A writing verb opens a loop once its open layer is closed. Undo and redo as verbs do as undo and redo.
-use Rattle.std.proofs.Common.{◌≡◌, ◌≢◌, ℕ, ◌≤◌, Bool, true, false, List, [], ◌∷◌, length, Some, refl, sym, ap, ◌∙◌, subst, nat_le, nat_lt, cond}
+use Rattle.std.proofs.Common.{◌≡◌, ◌≢◌, ℕ, ◌≤◌, Bool, true, false, List, [], ◌∷◌, length, Some, refl, sym, ap, ◌∙◌, subst, nat_le, nat_lt, cond, arith}
 use Rattle.std.specs.Prelude.{◌==◌}
 use Rattle.std.proofs.lemmas.Bool.{le-leb}
 use Rattle.sl_base.specs.Sounds.{Sound, loudness}
 use Rattle.sl_commands.specs.declared.Verb.{Verb}
 use Rattle.sl_commands.specs.declared.Verb.TheVariants.{Rec, Overdub, Multiply, Insert, Replace, Substitute, Undo, Redo}
 use Rattle.sl_commands.specs.declared.Mode.{Mode}
-use Rattle.sl_commands.specs.declared.Mode.TheVariants.{Off, WaitStart, Recording, Overdubbing, Multiplying, Inserting, Replacing, Substituting}
+use Rattle.sl_commands.specs.declared.Mode.TheVariants.{Off, WaitStart, Recording, Playing, Overdubbing, Multiplying, Inserting, Replacing, Substituting}
 use Rattle.sl_commands.specs.declared.Started.TheVariants.{Ok}
 use Rattle.looper_rules.specs.Opening.{opening}
 use Rattle.looper_rules.specs.Layers.{Layer}
@@ -14,7 +14,7 @@ use Rattle.looper_rules.specs.Loop.{Controls, Loop, is_off, is_writing, length_o
 use Rattle.looper_rules.specs.Closing.{closed_recording, closed_from, closed}
 use Rattle.looper_rules.specs.Starting.{records, starts_record, layers_on, starts, mode_after_wait, leaves_wait}
 use Rattle.looper_rules.specs.History.{closed_if, settled, undone, redone}
-use Rattle.looper_rules.specs.Verbs.{Column, InOff, InItsOwn, InAnother, Elsewhere, is_mode_of, column, unless_off, layer_row, length_row, row, acts_in, acts_from, acts}
+use Rattle.looper_rules.specs.Verbs.{Column, InOff, InItsOwn, InAnother, Elsewhere, is_mode_of, column, unless_off, layer_row, length_row, row, acts_in, acts_waiting, acts_from, acts}
 use Rattle.looper_rules.specs.LoopFrame.{wakes_as, awake_in, awake, frame_later}
 use Rattle.looper_laws.specs.OtherLayers.{CountsRefusal}
 use Rattle.looper_laws.specs.Undoing.{opens_as, IsOpenedFrom, for_record, for_mode}
@@ -159,7 +159,7 @@ verb_opens verb mode reach l opens another on awake settles granted =
     (for_mode mode (opens_as_writing verb l.deck.backward mode opens))
 
 -- a loop that a loud frame opens
-awake_opens : (x : Sound) (reach : ℕ) (l : Loop Sound) → l.deck.mode ≡ WaitStart → l.controls.rec_thresh ≤ loudness x → opening reach true l.stack ≡ Ok → awake x reach l ≡ records Ok l
+pub awake_opens : (x : Sound) (reach : ℕ) (l : Loop Sound) → l.deck.mode ≡ WaitStart → l.controls.rec_thresh ≤ loudness x → opening reach true l.stack ≡ Ok → awake x reach l ≡ records Ok l
 awake_opens x reach l waits loud granted =
     ap (λ mode. awake_in mode (nat_le l.controls.rec_thresh (loudness x)) reach l) waits
     ∙ (ap (λ is. awake_in WaitStart is reach l) (le-leb l.controls.rec_thresh (loudness x) loud) ∙ ap (λ answer. wakes_as answer l) granted)
@@ -183,7 +183,7 @@ verb_refused verb mode reach l opens another on awake settles refused =
     subst (λ now. CountsRefusal (settled l) now) (sym (acts_starts verb mode reach l opens another on awake settles)) (starts_refused reach mode (settled l) refused)
 
 -- undo and redo as verbs
-left_wait_quiet : (layers : List (Layer Sound)) → is_writing (mode_after_wait layers) ≡ false
+pub left_wait_quiet : (layers : List (Layer Sound)) → is_writing (mode_after_wait layers) ≡ false
 left_wait_quiet [] = refl
 left_wait_quiet (_ ∷ _) = refl
 
@@ -200,3 +200,66 @@ redo_from_mode_stack _ reach l = redo_stack l
 
 pub acts_redo_stack : (reach : ℕ) (l : Loop Sound) → (acts Redo reach l).stack ≡ redone l.stack
 acts_redo_stack reach l = redo_from_mode_stack l.deck.mode reach l
+
+-- in WaitStart every verb but `record` leaves it first, and then acts
+after_wait : (verb : Verb) (layers : List (Layer Sound)) (reach : ℕ) (now : Loop Sound) →
+    acts_in verb (mode_after_wait layers) reach now ≡ acts_from verb (mode_after_wait layers) reach now
+after_wait verb [] reach now = refl
+after_wait verb (_ ∷ _) reach now = refl
+
+waiting_is : (verb : Verb) (reach : ℕ) (l : Loop Sound) → verb ≢ Rec →
+    acts_waiting verb reach l ≡ acts_in verb (mode_after_wait l.stack.layers) reach (leaves_wait l)
+waiting_is Rec reach l other = absurd (other refl)
+waiting_is _ reach l other = refl
+
+pub acts_in_wait : (verb : Verb) (reach : ℕ) (l : Loop Sound) → l.deck.mode ≡ WaitStart → verb ≢ Rec →
+    acts verb reach l ≡ acts verb reach (leaves_wait l)
+acts_in_wait verb reach l waits other =
+    ap (λ mode. acts_from verb mode reach l) waits
+    ∙ waiting_is verb reach l other
+    ∙ after_wait verb l.stack.layers reach (leaves_wait l)
+
+pub record_in_wait : (reach : ℕ) (l : Loop Sound) → l.deck.mode ≡ WaitStart → acts Rec reach l ≡ leaves_wait l
+record_in_wait reach l waits = ap (λ mode. acts_from Rec mode reach l) waits
+
+-- there a verb that opens is another one, and closing does nothing
+opens_not_record : (verb : Verb) (backward : Bool) (mode : Mode) → opens_as verb backward ≡ Some mode → verb ≢ Rec
+opens_not_record Rec backward mode opens = absurd (let none : ⊥ = Prim.cc in none)
+opens_not_record Overdub backward mode opens = λ same. Prim.cc
+opens_not_record Multiply backward mode opens = λ same. Prim.cc
+opens_not_record Insert backward mode opens = λ same. Prim.cc
+opens_not_record Replace backward mode opens = λ same. Prim.cc
+opens_not_record Substitute backward mode opens = λ same. Prim.cc
+opens_not_record _ backward mode opens = absurd (let none : ⊥ = Prim.cc in none)
+
+plays_after_wait : (layers : List (Layer Sound)) → 1 ≤ length layers → mode_after_wait layers ≡ Playing
+plays_after_wait [] some = absurd (let none : ⊥ = omega arith in none)
+plays_after_wait (_ ∷ _) some = refl
+
+not_off_after_wait : (layers : List (Layer Sound)) → 1 ≤ length layers → mode_after_wait layers ≢ Off
+not_off_after_wait layers some = λ off. (let plays = plays_after_wait layers some in Prim.cc)
+
+not_writing_after_wait : (layers : List (Layer Sound)) (mode : Mode) → is_writing mode ≡ true → mode_after_wait layers ≢ mode
+not_writing_after_wait layers mode writing = λ same. (let quiet : is_writing mode ≡ false = subst (λ m. is_writing m ≡ false) same (left_wait_quiet layers) in Prim.cc)
+
+not_waiting_after_wait : (layers : List (Layer Sound)) → 1 ≤ length layers → mode_after_wait layers ≢ WaitStart
+not_waiting_after_wait layers some = λ waits. (let plays = plays_after_wait layers some in Prim.cc)
+
+module _ (verb : Verb) (mode : Mode) (reach : ℕ) (l : Loop Sound) (opens : opens_as verb l.deck.backward ≡ Some mode) (waits : l.deck.mode ≡ WaitStart) (some : 1 ≤ length l.stack.layers) where
+  starts_from_wait : acts verb reach l ≡ starts mode reach (leaves_wait l)
+  starts_from_wait =
+      let same : settled (leaves_wait l) ≡ leaves_wait l = quiet_settled (leaves_wait l) (left_wait_quiet l.stack.layers) in
+      acts_in_wait verb reach l waits (opens_not_record verb l.deck.backward mode opens)
+      ∙ acts_starts verb mode reach (leaves_wait l) opens
+      (not_writing_after_wait l.stack.layers mode (opens_as_writing verb l.deck.backward mode opens))
+      (not_off_after_wait l.stack.layers some)
+      (not_waiting_after_wait l.stack.layers some)
+      (subst (λ (s : Loop Sound). s.deck.mode ≢ Off) (sym same) (not_off_after_wait l.stack.layers some))
+      ∙ ap (starts mode reach) same
+
+  pub wait_opens : opening reach false l.stack ≡ Ok → IsOpenedFrom (leaves_wait l) (acts verb reach l)
+  wait_opens granted =
+      subst (λ after. IsOpenedFrom (leaves_wait l) after) (sym (starts_from_wait ∙ ap (λ answer. layers_on answer mode (leaves_wait l)) granted)) (for_mode mode (opens_as_writing verb l.deck.backward mode opens))
+
+  pub wait_refused : opening reach false l.stack ≢ Ok → CountsRefusal (leaves_wait l) (acts verb reach l)
+  wait_refused refused = subst (λ after. CountsRefusal (leaves_wait l) after) (sym starts_from_wait) (starts_refused reach mode (leaves_wait l) refused)
