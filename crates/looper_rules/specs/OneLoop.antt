@@ -5,6 +5,7 @@
 -- In Playing the frame at the position is heard. The position goes on by one, and behind the last frame to 0.
 -- In the other modes silence is heard.
 -- A hit acts before the frame with its number. A hit whose frame never comes changes no output.
+-- "The single loop" in docs/rules.md.
 use Rattle.std.specs.Prelude.{ℕ, ◌+◌, List, [], ◌∷◌, ◌++◌, length, if◌then◌else◌, ◌==◌, slice_index_or}
 use Rattle.sl_base.specs.Sounds.{Sound, silence}
 use Rattle.looper_rules.specs.declared.one_loop.OneMode.{OneMode}

@@ -1,5 +1,6 @@
 -- Short words for worked runs: what comes in, in 16-bit samples and timed commands, and what is left, in layers and loops.
 -- Unless a run says otherwise, all controls have their first values, and there are 4096 chunks.
+-- "The run" in docs/rules.md.
 use Rattle.std.specs.Prelude.{ℕ, suc, pos, negsuc, List, [], ◌∷◌, map, Option, Some, None}
 use Rattle.sl_base.specs.Arithmetic.{widened}
 use Rattle.sl_base.specs.Sounds.{Sound, both}
