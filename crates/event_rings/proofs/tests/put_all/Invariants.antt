@@ -1,0 +1,12 @@
+use Rattle.std.proofs.Common.{◌≡◌, ◌≤◌, length}
+use Rattle.event_rings.specs.Ends.{max_limit}
+use Rattle.event_rings.proofs.tests.put_all.Given as goal
+
+abbrev pub invariant-loop : goal.invariant-loop
+invariant-loop g l =
+    (goal.iterator-loop g).can_next l.iterator'
+    × (goal.iterator-loop g).is_finite l.iterator'
+    × (length l.putter.sent ≡ l.next)
+    × (l.next ≤ 100000)
+    × (l.putter.limit ≡ max_limit)
+    × (l.putter.name ≡ l.fn.putter.name)
