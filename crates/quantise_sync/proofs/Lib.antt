@@ -1,0 +1,3 @@
+pub mod MultipleLemmas
+pub mod FaceLemmas
+pub mod BoundaryLemmas
