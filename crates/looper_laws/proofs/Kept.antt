@@ -17,3 +17,4 @@ pub mod Runs
 pub mod Starts
 pub mod Sessions
 pub mod Constants
+pub mod Selected

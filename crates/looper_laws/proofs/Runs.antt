@@ -3,3 +3,4 @@ pub mod Cuts
 pub mod Places
 pub mod Sizes
 pub mod Comes
+pub mod Counts

@@ -10,3 +10,4 @@ pub mod Made
 pub mod Blocks
 pub mod Parts
 pub mod Prefixes
+pub mod BlockCounts

@@ -41,12 +41,14 @@ pub use other_layers::{
 };
 pub use reached::{
     a_closing_keeps_the_loop, a_frame_keeps_the_loop, a_frame_keeps_the_looper,
-    a_kept_loop_is_a_loop, a_kept_looper_is_a_looper, a_run_begins_with_a_looper,
+    a_kept_loop_is_a_loop, a_kept_looper_is_a_looper, a_kept_looper_selects_one_of_its_loops,
+    a_run_begins_with_a_looper,
     a_run_keeps_its_rate_and_its_chunks, a_verb_keeps_the_loop, an_entry_keeps_the_looper,
     an_opening_keeps_the_loop, each_state_of_a_run_is_a_looper,
 };
 pub use replies::{
     a_frame_comes_out_for_each_that_goes_in, a_get_or_a_save_is_answered_once,
+    an_entry_gives_at_most_one_reply_and_one_save,
     each_reply_answers_a_get_or_a_save_before_it, gets_are_answered_in_their_order,
 };
 pub use saved_lists::{
@@ -54,6 +56,7 @@ pub use saved_lists::{
     saves_are_numbered_in_order, saves_are_those_at_their_entries,
 };
 pub use sent_saves::{
+    a_save_has_so_many_blocks_at_most,
     blocks_that_may_follow_begin_those_of_saves, each_save_of_a_run_may_be_sent,
     the_blocks_of_saves_may_follow, the_settings_of_a_looper_lie_in_their_ranges,
 };

@@ -18,6 +18,7 @@ ghost use Rattle.looper_rules.specs.Entries.{applied};
 ghost use Rattle.looper_rules.specs.Frame.{at_boundaries, framed_from, framed};
 ghost use Rattle.looper_rules.specs.Run.{entered, begun, run, start};
 ghost use Rattle.looper_rules.specs.Cuts.{run_from};
+ghost use Rattle.looper_laws.specs.Questions.{SelectsALoop};
 ghost use Rattle.looper_rules.specs.States.{AreClosed, ArePlayable, IsLoop, IsLooper};
 ghost use Rattle.looper_rules.specs.Reached.{Unchanged, IsLayering, KeepsLoops, Keeps, KeepsLooper, SameRateAndChunks, IsBeginning};
 
@@ -55,6 +56,11 @@ pub fn a_frame_keeps_the_loop()
 /// What a looper keeps is more than what always holds of it.
 pub fn a_kept_looper_is_a_looper()
     ensures { (frame : ℕ) (l : Looper) → KeepsLooper frame l → IsLooper frame l }
+{}
+
+/// A looper that keeps it selects one of its loops.
+pub fn a_kept_looper_selects_one_of_its_loops()
+    ensures { (frame : ℕ) (l : Looper) → KeepsLooper frame l → SelectsALoop l }
 {}
 
 /// Every entry keeps it, valid or not.

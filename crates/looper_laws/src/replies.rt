@@ -1,13 +1,14 @@
 //! A run's output is as long as its input, and its replies answer its gets and saves.
 
-ghost use Rattle.std.specs.Prelude.{◌≡◌, ℕ, ◌≤◌, Bool, List, [], ◌∷◌, ◌++◌, length, map, filter, All, Contains, count_by, option_to_list, IsTrue};
+ghost use Rattle.std.specs.Prelude.{◌≡◌, ℕ, ◌+◌, ◌≤◌, Bool, List, [], ◌∷◌, ◌++◌, length, map, filter, All, Contains, count_by, option_to_list, IsTrue};
 ghost use Rattle.sl_base.specs.Sounds.{Sound};
 ghost use Rattle.sl_commands.specs.declared.Entry.{Entry};
 ghost use Rattle.sl_commands.specs.Entries.{FramesNeverFall, are_stamped};
 ghost use Rattle.sl_commands.specs.Settings.{LooperSettings, are_settings};
 ghost use Rattle.looper_rules.specs.Looper.{Looper};
 ghost use Rattle.looper_rules.specs.Entries.{reply};
-ghost use Rattle.looper_rules.specs.Run.{start, run};
+ghost use Rattle.looper_rules.specs.Run.{begun, start, run};
+ghost use Rattle.looper_rules.specs.Cuts.{run_from};
 ghost use Rattle.looper_laws.specs.Places.{run_before, met, run_behind, ComesWithEntry};
 ghost use Rattle.looper_laws.specs.Questions.{Question, questions, answered, AnswersInTime, is_of, is_get, valid_ones, SelectsALoop};
 
@@ -17,6 +18,20 @@ pub fn a_frame_comes_out_for_each_that_goes_in()
         length (run es input l).output ≡ length input }
     ensures loops { (es : List Entry) → (input : List Sound) → (l : Looper) → SelectsALoop l →
         (length (run es input l).looper.tracks ≡ length l.tracks) × SelectsALoop (run es input l).looper }
+{}
+
+/// Each entry gives at most one reply and makes at most one save, so there are no more of either than entries.
+pub fn an_entry_gives_at_most_one_reply_and_one_save()
+    ensures replies { (frame : ℕ) → (es : List Entry) → (input : List Sound) → (l : Looper) →
+        length (run_from frame es input l).replies ≤ length es }
+    ensures saves { (frame : ℕ) → (es : List Entry) → (input : List Sound) → (l : Looper) →
+        length (run_from frame es input l).saves ≤ length es }
+
+    // Of entries of which some are left, no more than of the others.
+    ensures begun_replies { (frame : ℕ) → (es : List Entry) → (input : List Sound) → (l : Looper) →
+        length (begun frame es input l).replies + length (begun frame es input l).left ≤ length es }
+    ensures begun_saves { (frame : ℕ) → (es : List Entry) → (input : List Sound) → (l : Looper) →
+        length (begun frame es input l).saves + length (begun frame es input l).left ≤ length es }
 {}
 
 /// Each reply comes with an entry, in the order of the entries, and has the sender and seq of a get or a save that was

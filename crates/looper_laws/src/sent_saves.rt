@@ -1,18 +1,18 @@
 //! Each save of a run is one whose blocks may follow, and blocks that may follow are those of saves.
 
-ghost use Rattle.std.specs.Prelude.{◌≡◌, ℕ, ◌+◌, ◌≤◌, List, [], ◌++◌, length, IsTrue, Some, None};
+ghost use Rattle.std.specs.Prelude.{◌≡◌, ℕ, ◌+◌, ◌*◌, ◌/◌, ◌≤◌, List, [], ◌++◌, length, IsTrue, Some, None};
 ghost use Rattle.std.specs.List.{AllByRecursion};
 ghost use Rattle.sl_base.specs.Sounds.{Sound};
 ghost use Rattle.sl_commands.specs.declared.Block.{Block};
 ghost use Rattle.sl_commands.specs.declared.Entry.{Entry};
 ghost use Rattle.sl_commands.specs.Settings.{LooperSettings, are_settings};
-ghost use Rattle.sl_commands.specs.Blocks.{place_of, may_all_follow};
+ghost use Rattle.sl_commands.specs.Blocks.{parts_of, place_of, may_all_follow};
 ghost use Rattle.looper_rules.specs.Looper.{Looper};
 ghost use Rattle.looper_rules.specs.Saves.{Save, settings_of};
 ghost use Rattle.looper_rules.specs.Entries.{save};
 ghost use Rattle.looper_rules.specs.Run.{begun, run, start};
 ghost use Rattle.looper_rules.specs.Cuts.{run_from};
-ghost use Rattle.looper_rules.specs.SaveBlocks.{blocks_for_all, IsMade, AreSent, BeginSaves};
+ghost use Rattle.looper_rules.specs.SaveBlocks.{blocks_of_save, blocks_for_all, IsMade, AreSent, BeginSaves};
 ghost use Rattle.looper_rules.specs.Reached.{KeepsLooper, IsBeginning};
 
 /// Each save of a run is one whose blocks may follow: its target has as many lists, none is too long, and a session's name
@@ -45,6 +45,14 @@ pub fn the_blocks_of_saves_may_follow()
     ensures place { (blocks : List Block) → (first : ℕ) → (saves : List Save) → AreSent first saves →
         place_of blocks ≡ Some (record { saves = first; begun = None }) →
         place_of (blocks ++ blocks_for_all saves) ≡ Some (record { saves = first + length saves; begun = None }) }
+{}
+
+/// A list has as many parts as its length divided by 256, rounded up, and so a save has at most 16 lists of 65536 parts, a head
+/// and an end.
+pub fn a_save_has_so_many_blocks_at_most()
+    ensures parts { (save index : ℕ) → (list : List Sound) → length (parts_of save index list) ≡ (length list + 255) / 256 }
+    ensures save { (s : Save) → IsMade s → length (blocks_of_save s) ≤ 1048578 }
+    ensures all { (saves : List Save) → AllByRecursion IsMade saves → length (blocks_for_all saves) ≤ length saves * 1048578 }
 {}
 
 /// Whatever blocks may follow one by one on a ring are the first blocks of some saves, numbered from 0 and at most as many as

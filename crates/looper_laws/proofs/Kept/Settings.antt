@@ -58,6 +58,10 @@ all_globals loops g h =
 pub dry_range : (loops : ℕ) (g : Globals) → are_globals loops g ≡ true → (nat_le 0 g.dry && nat_le g.dry 1000) ≡ true
 dry_range loops g h = (six_in_ranges loops g h).dry
 
+-- the selected loop is one of the loops
+pub selected_range : (loops : ℕ) (g : Globals) → are_globals loops g ≡ true → is_in_range SelectedLoopNum (pos g.selected_loop_num) loops ≡ true
+selected_range loops g h = (six_in_ranges loops g h).selected_loop_num
+
 -- a control of the looper that is set to a value in its range
 global_in_ranges :
     (control : Control) (value : ℤ) (loops : ℕ) (g : Globals) → is_in_range control value loops ≡ true → InRanges loops g →
