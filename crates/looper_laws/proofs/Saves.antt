@@ -6,6 +6,7 @@ pub mod Pins
 pub mod Releases
 pub mod Holds
 pub mod Owners
+pub mod Apart
 pub mod Made
 pub mod Blocks
 pub mod Parts

@@ -3,3 +3,4 @@ pub mod Questions
 pub mod OtherLayers
 pub mod Undoing
 pub mod SingleRun
+pub mod Apart

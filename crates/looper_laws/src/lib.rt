@@ -42,23 +42,22 @@ pub use other_layers::{
 pub use reached::{
     a_closing_keeps_the_loop, a_frame_keeps_the_loop, a_frame_keeps_the_looper,
     a_kept_loop_is_a_loop, a_kept_looper_is_a_looper, a_kept_looper_selects_one_of_its_loops,
-    a_run_begins_with_a_looper,
-    a_run_keeps_its_rate_and_its_chunks, a_verb_keeps_the_loop, an_entry_keeps_the_looper,
-    an_opening_keeps_the_loop, each_state_of_a_run_is_a_looper,
+    a_run_begins_with_a_looper, a_run_keeps_its_rate_and_its_chunks, a_verb_keeps_the_loop,
+    an_entry_keeps_the_looper, an_opening_keeps_the_loop, each_state_of_a_run_is_a_looper,
 };
 pub use replies::{
     a_frame_comes_out_for_each_that_goes_in, a_get_or_a_save_is_answered_once,
-    an_entry_gives_at_most_one_reply_and_one_save,
-    each_reply_answers_a_get_or_a_save_before_it, gets_are_answered_in_their_order,
+    an_entry_gives_at_most_one_reply_and_one_save, each_reply_answers_a_get_or_a_save_before_it,
+    gets_are_answered_in_their_order,
 };
 pub use saved_lists::{
     a_pin_holds_its_list_until_the_release, a_save_is_what_its_entry_met, no_save_changes_later,
     saves_are_numbered_in_order, saves_are_those_at_their_entries,
 };
 pub use sent_saves::{
-    a_save_has_so_many_blocks_at_most,
-    blocks_that_may_follow_begin_those_of_saves, each_save_of_a_run_may_be_sent,
-    the_blocks_of_saves_may_follow, the_settings_of_a_looper_lie_in_their_ranges,
+    a_save_has_so_many_blocks_at_most, blocks_that_may_follow_begin_those_of_saves,
+    each_save_of_a_run_may_be_sent, the_blocks_of_saves_may_follow,
+    the_settings_of_a_looper_lie_in_their_ranges,
 };
 pub use shared_room::{
     a_reached_looper_shares_its_chunks, the_room_that_passes_on_is_what_the_others_leave,
@@ -66,7 +65,7 @@ pub use shared_room::{
 };
 pub use standing_pins::{
     a_frame_leaves_all_holds, a_release_takes_the_pins_that_it_names,
-    standing_pins_are_of_unanswered_saves,
+    standing_pins_are_of_unanswered_saves, unanswered_saves_are_of_different_loops,
 };
 pub use undoing::{
     a_closed_layer_keeps_its_list, a_verb_leaves_wait_start_first, a_writing_verb_opens_a_loop,

@@ -14,6 +14,7 @@ ghost use Rattle.looper_rules.specs.Run.{entered, begun, run, start};
 ghost use Rattle.looper_rules.specs.Pins.{names_pin};
 ghost use Rattle.looper_rules.specs.Unanswered.{unanswered_after, unanswered_entered, unanswered_begun, unanswered, holds_of, HoldPins};
 ghost use Rattle.looper_rules.specs.Reached.{KeepsLooper, IsBeginning};
+ghost use Rattle.looper_laws.specs.Apart.{AreAllApart, AreSomeOf};
 
 /// A valid release takes away the pins that it names and no others, and changes nothing else of any track.
 pub fn a_release_takes_the_pins_that_it_names()
@@ -45,4 +46,17 @@ pub fn a_frame_leaves_all_holds()
     ensures whole { (frame : ℕ) → (x : Sound) → (l : Looper) → holds_of (framed frame x l).looper ≡ holds_of l }
     ensures boundaries { (frame : ℕ) → (l : Looper) → holds_of (at_boundaries frame l) ≡ holds_of l }
     ensures behind { (x : Sound) → (l : Looper) → holds_of (framed_from x l).looper ≡ holds_of l }
+{}
+
+/// The unanswered saves are some of the saves of the run, in their order. They are of different loops, and a session's is alone:
+/// so a release answers one of them at most.
+pub fn unanswered_saves_are_of_different_loops()
+    ensures entry { (frame : ℕ) → (e : Entry) → (l : Looper) → (saves : List Save) → KeepsLooper frame l →
+        HoldPins saves (holds_of l) → AreAllApart saves → AreAllApart (unanswered_after e l saves) }
+    ensures begun { (frame : ℕ) → (es : List Entry) → (xs : List Sound) → (l : Looper) → (saves : List Save) → KeepsLooper frame l →
+        HoldPins saves (holds_of l) → AreAllApart saves → AreAllApart (unanswered_begun frame es xs l saves) }
+    ensures run { (s : LooperSettings) → (chunks : ℕ) → (lists : List (List Sound)) → (es : List Entry) → (input : List Sound) →
+        IsBeginning s chunks lists → AreAllApart (unanswered es input (start s chunks lists)) }
+    ensures some { (es : List Entry) → (input : List Sound) → (l : Looper) →
+        AreSomeOf (unanswered es input l) (run es input l).saves }
 {}

@@ -1,5 +1,5 @@
 -- How many blocks saves have at most.
-use Rattle.std.proofs.Common.{◌≡◌, ◌≢◌, ℕ, suc, ◌+◌, ◌*◌, ◌/◌, ◌≤◌, ◌<◌, Bool, true, false, cond, List, [], ◌∷◌, ◌++◌, length, refl, ap, subst, arith, length-append}
+use Rattle.std.proofs.Common.{◌≡◌, ◌≢◌, ℕ, suc, ◌+◌, ◌*◌, ◌/◌, ◌≤◌, ◌<◌, Bool, true, false, cond, List, [], ◌∷◌, ◌++◌, length, refl, arith, length-append}
 use Rattle.std.specs.Prelude.{◌==◌, ◌&&◌, nat_le}
 use Rattle.std.specs.List.{AllByRecursion, list_all}
 use Rattle.std.proofs.lemmas.Bool.{eqb-true, eqb-false, and_parts, leb-true}
@@ -7,7 +7,6 @@ use Rattle.sl_base.specs.Limits.{max_list_frames}
 use Rattle.sl_base.specs.Sounds.{Sound}
 use Rattle.sl_commands.specs.declared.Target.{Target}
 use Rattle.sl_commands.specs.declared.Target.TheVariants.{One, All, Selected}
-use Rattle.sl_commands.specs.declared.Block.{Block}
 use Rattle.sl_commands.specs.declared.Block.TheVariants.{Part, End}
 use Rattle.sl_commands.specs.Settings.{LooperSettings, is_rate, is_loop_count, are_globals, are_strips, are_settings}
 use Rattle.sl_commands.specs.Blocks.{parts_behind, parts_of, parts_of_lists, first_index}

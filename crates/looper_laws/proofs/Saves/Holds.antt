@@ -204,12 +204,12 @@ loop_pinned k s asker list saves hs target lists kind free there h =
 abbrev pub AreFree : List Hold → Type 0
 AreFree hs = AllByRecursion (λ (h : Hold). h.asker ≡ None) hs
 
-no_loop_held : (lists : List (List Sound)) (j : ℕ) (hs : List Hold) → AreFree hs → HoldsLoop lists (slice_get hs j) → ⊥
+pub no_loop_held : (lists : List (List Sound)) (j : ℕ) (hs : List Hold) → AreFree hs → HoldsLoop lists (slice_get hs j) → ⊥
 no_loop_held lists j [] free held = held
 no_loop_held lists zero (h ∷ hs) free held = let none : loop_asker h.asker ≡ None = ap loop_asker free.0 in cc
 no_loop_held lists (suc j) (h ∷ hs) free held = no_loop_held lists j hs free.1 held
 
-no_session_held : (lists : List (List Sound)) (h : Hold) (hs : List Hold) → AreFree (h ∷ hs) → HoldsSession lists (h ∷ hs) → ⊥
+pub no_session_held : (lists : List (List Sound)) (h : Hold) (hs : List Hold) → AreFree (h ∷ hs) → HoldsSession lists (h ∷ hs) → ⊥
 no_session_held lists h hs free held = let none : session_asker h.asker ≡ None = ap session_asker free.0 in let some = held.asked.0 in cc
 
 -- what stands on each track once the session is pinned

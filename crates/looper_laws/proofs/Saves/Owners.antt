@@ -113,7 +113,7 @@ unpinned : (pin empty : Bool) → loop_refusal pin empty ≡ None → pin ≡ fa
 unpinned true empty none = absurd (cc)
 unpinned false empty none = refl
 
-unasked : (frame : ℕ) (t : Track) → IsTrack frame t → save_refusal t ≡ None → t.asker ≡ None
+pub unasked : (frame : ℕ) (t : Track) → IsTrack frame t → save_refusal t ≡ None → t.asker ≡ None
 unasked frame t h none = none_there t.asker (h.asker ∙ unpinned (is_pinned t.loop) (length_of t.loop == 0) none)
 
 -- an index with no track changes nothing
@@ -156,7 +156,7 @@ first_unpinned : (pin rest : Bool) → (pin || rest) ≡ false → (pin ≡ fals
 first_unpinned true rest none = absurd (cc)
 first_unpinned false rest none = (refl, none)
 
-all_free : (frame : ℕ) (ts : List Track) → AllByRecursion (IsTrack frame) ts → any_pinned ts ≡ false → AreFree (holds_on ts)
+pub all_free : (frame : ℕ) (ts : List Track) → AllByRecursion (IsTrack frame) ts → any_pinned ts ≡ false → AreFree (holds_on ts)
 all_free frame [] tracks none = tt
 all_free frame (t ∷ ts) tracks none =
     let here = first_unpinned (is_pinned t.loop) (any_pinned ts) none in
