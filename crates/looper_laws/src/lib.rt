@@ -42,8 +42,9 @@ pub use other_layers::{
 pub use reached::{
     a_closing_keeps_the_loop, a_frame_keeps_the_loop, a_frame_keeps_the_looper,
     a_kept_loop_is_a_loop, a_kept_looper_is_a_looper, a_kept_looper_selects_one_of_its_loops,
-    a_run_begins_with_a_looper, a_run_keeps_its_rate_and_its_chunks, a_verb_keeps_the_loop,
-    an_entry_keeps_the_looper, an_opening_keeps_the_loop, each_state_of_a_run_is_a_looper,
+    a_loop_of_addresses_is_kept, a_run_begins_with_a_looper, a_run_keeps_its_rate_and_its_chunks,
+    a_verb_keeps_the_loop, an_entry_keeps_the_looper, an_opening_keeps_the_loop,
+    each_state_of_a_run_is_a_looper,
 };
 pub use replies::{
     a_frame_comes_out_for_each_that_goes_in, a_get_or_a_save_is_answered_once,
@@ -65,7 +66,8 @@ pub use shared_room::{
 };
 pub use standing_pins::{
     a_frame_leaves_all_holds, a_release_takes_the_pins_that_it_names,
-    standing_pins_are_of_unanswered_saves, unanswered_saves_are_of_different_loops,
+    a_save_is_unanswered_until_its_release, standing_pins_are_of_unanswered_saves,
+    unanswered_saves_are_of_different_loops,
 };
 pub use undoing::{
     a_closed_layer_keeps_its_list, a_verb_leaves_wait_start_first, a_writing_verb_opens_a_loop,

@@ -48,6 +48,18 @@ pub fn a_verb_keeps_the_loop()
     ensures waited { KeepsLoops waiting_acts }
 {}
 
+/// All this holds too of a loop whose cells are addresses on a tape.
+pub fn a_loop_of_addresses_is_kept()
+    ensures recorded { (a : Unchanged) (l : Loop ℕ) → Keeps a l → AreClosed l.stack.layers →
+        Keeps a (records (opening a.reach true l.stack) l) }
+    ensures copied { (a : Unchanged) (mode : Mode) (l : Loop ℕ) → Keeps a l →
+        ArePlayable l.stack.layers l.deck.pos → IsLayering mode l.deck.backward → Keeps a (starts mode a.reach l) }
+    ensures closing { (a : Unchanged) (l : Loop ℕ) → Keeps a l → IsTrue (is_writing l.deck.mode) → Keeps a (closed l) }
+    ensures acts { (verb : Verb) (a : Unchanged) (l : Loop ℕ) → Keeps a l → Keeps a (acts verb a.reach l) }
+    ensures given { (verb : Verb) (a : Unchanged) (l : Loop ℕ) → Keeps a l → Keeps a (given verb a.reach l) }
+    ensures waited { (a : Unchanged) (l : Loop ℕ) → Keeps a l → Keeps a (waiting_acts a.reach l) }
+{}
+
 /// A frame keeps it, in every mode.
 pub fn a_frame_keeps_the_loop()
     ensures { (x : Sound) → KeepsLoops (λ reach l. after x reach (ready x reach l)) }

@@ -1,16 +1,19 @@
 //! The pins that stand are those of the saves that no release has answered.
 
-ghost use Rattle.std.specs.Prelude.{◌≡◌, ℕ, IsTrue, List, [], map, slice_get, option_map, if◌then◌else◌};
+ghost use Rattle.std.specs.Prelude.{◌≡◌, ℕ, IsTrue, List, [], ◌∷◌, ◌++◌, codes, map, slice_get, option_map, if◌then◌else◌};
 ghost use Rattle.sl_base.specs.Sounds.{Sound};
+ghost use Rattle.sl_commands.specs.declared.Verb.TheVariants.{Rec};
 ghost use Rattle.sl_commands.specs.declared.Target.{Target};
-ghost use Rattle.sl_commands.specs.declared.Command.TheVariants.{Release};
+ghost use Rattle.sl_commands.specs.declared.Target.TheVariants.{One, All};
+ghost use Rattle.sl_commands.specs.declared.Command.TheVariants.{SaveLoop, Release};
 ghost use Rattle.sl_commands.specs.declared.Entry.{Entry};
-ghost use Rattle.sl_commands.specs.Settings.{LooperSettings};
+ghost use Rattle.sl_commands.specs.Settings.{LooperSettings, default_strip, default_settings};
 ghost use Rattle.looper_rules.specs.Looper.{Track, Looper};
 ghost use Rattle.looper_rules.specs.Saves.{Save, freed};
 ghost use Rattle.looper_rules.specs.Entries.{is_taken, applied};
 ghost use Rattle.looper_rules.specs.Frame.{at_boundaries, framed_from, framed};
 ghost use Rattle.looper_rules.specs.Run.{entered, begun, run, start};
+ghost use Rattle.looper_rules.specs.Worked.{samples, hit, journal, new_looper, saved};
 ghost use Rattle.looper_rules.specs.Pins.{names_pin};
 ghost use Rattle.looper_rules.specs.Unanswered.{unanswered_after, unanswered_entered, unanswered_begun, unanswered, holds_of, HoldPins};
 ghost use Rattle.looper_rules.specs.Reached.{KeepsLooper, IsBeginning};
@@ -59,4 +62,14 @@ pub fn unanswered_saves_are_of_different_loops()
         IsBeginning s chunks lists → AreAllApart (unanswered es input (start s chunks lists)) }
     ensures some { (es : List Entry) → (input : List Sound) → (l : Looper) →
         AreSomeOf (unanswered es input l) (run es input l).saves }
+{}
+
+/// A save is unanswered until its release, and stays so through the release of another loop and of a session.
+pub fn a_save_is_unanswered_until_its_release()
+    ensures { let input = samples (1 ∷ 2 ∷ 3 ∷ 4 ∷ 0 ∷ 0 ∷ []) in
+        let settings = record (default_settings 48000 2) { strips = record default_strip { length = 4; cycle = 4 } ∷ default_strip ∷ [] } in
+        let take = saved 0 0 (codes "take.wav") settings (samples (1 ∷ 2 ∷ 3 ∷ 4 ∷ [])) in
+        let before = (0, hit 0 Rec) ∷ (4, hit 0 Rec) ∷ (4, SaveLoop (One 0) (codes "take.wav")) ∷ (5, Release (One 1) 0) ∷ (5, Release All 0) ∷ [] in
+        (unanswered (journal before) input (new_looper 2 4096) ≡ take ∷ [])
+        × (unanswered (journal (before ++ (5, Release (One 0) 0) ∷ [])) input (new_looper 2 4096) ≡ []) }
 {}
