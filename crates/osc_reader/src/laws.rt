@@ -1,0 +1,21 @@
+//! What holds of the definitions.
+
+ghost use Rattle.std.specs.Prelude.{◌≡◌, ◌≤◌, ℕ, List, [], ◌∷◌, ◌++◌, length, replicate, IsTrue};
+ghost use Rattle.std.specs.List.{AllByRecursion};
+ghost use Rattle.osc_reader.specs.Strings.{has_no_zero};
+ghost use Rattle.osc_reader.specs.Grammar.{BeginsWith, IsPacket};
+ghost use Rattle.osc_reader.specs.Putting.{max_message};
+ghost use Rattle.osc_reader.specs.Written.{IsWritable, message_bytes, read_message};
+ghost use Rattle.osc_reader.specs.declared.message.Message.{Message};
+ghost use Rattle.osc_reader.specs.declared.write.OutArg.{OutArg};
+
+/// What is written is a packet, which says the message that was written.
+pub fn what_is_written_is_read()
+    ensures { (address : List ℕ) (args : List OutArg) → BeginsWith 47 address → IsTrue (has_no_zero address) → AllByRecursion IsWritable args
+        → length (message_bytes address args) ≤ max_message → IsPacket (message_bytes address args) (read_message address args ∷ []) }
+{}
+
+/// Bytes say one list of messages at most.
+pub fn a_packet_has_one_reading()
+    ensures { (bytes : List ℕ) (messages others : List Message) → IsPacket bytes messages → IsPacket bytes others → messages ≡ others }
+{}
