@@ -6,3 +6,4 @@ pub mod Others
 pub mod Undo
 pub mod Room
 pub mod Single
+pub mod InSpans

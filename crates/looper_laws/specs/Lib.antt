@@ -4,3 +4,4 @@ pub mod OtherLayers
 pub mod Undoing
 pub mod SingleRun
 pub mod Apart
+pub mod Spans

@@ -10,6 +10,7 @@
 //! - `other_layers`: nothing changes a layer but the current one.
 //! - `undoing`: undo and redo give back what stood before.
 //! - `shared_room`: loops share the chunks.
+//! - `spans`: a span of frames may be played one loop after another.
 //! - `one_loop_law`: the single loop that `render` plays is a looper of one loop.
 //!
 //! `specs/` has the words that only these laws need. The proofs stand in `proofs/`, a folder a notion. The rules are
@@ -24,6 +25,7 @@ mod replies;
 mod saved_lists;
 mod sent_saves;
 mod shared_room;
+mod spans;
 mod standing_pins;
 mod undoing;
 
@@ -63,6 +65,10 @@ pub use sent_saves::{
 pub use shared_room::{
     a_reached_looper_shares_its_chunks, the_room_that_passes_on_is_what_the_others_leave,
     what_is_done_to_a_loop_stays_in_reach,
+};
+pub use spans::{
+    a_span_is_its_frames, frames_before_the_next_boundary_are_calm,
+    frames_without_a_waiting_verb_are_calm,
 };
 pub use standing_pins::{
     a_frame_leaves_all_holds, a_release_takes_the_pins_that_it_names,
