@@ -1,5 +1,6 @@
 -- The calls of one kind on a memory end are numbered from 1. Those whose numbers are listed fail.
 -- A call that fails raises the count of faults, whether its number is listed or memory is refused to a sink.
+-- "The outside" in docs/rules.md.
 use Rattle.std.specs.Prelude.{ℕ, Bool, List, ◌==◌, if◌then◌else◌}
 use Rattle.std.specs.List.{list_any}
 use Rattle.sl_base.specs.Counting.{raised}

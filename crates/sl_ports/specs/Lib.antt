@@ -4,5 +4,6 @@ pub mod Reading
 pub mod Keeping
 pub mod Calls
 pub mod MemoryEnds
+pub mod Effects
 pub mod RealEnds
 pub mod Transfers

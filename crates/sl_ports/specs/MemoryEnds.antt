@@ -1,6 +1,7 @@
 -- A memory sink holds the bytes that were written, and a memory keeper the files, oldest first.
 -- Of the files that were written under one name the last counts. A write that isn't done leaves all as it was.
-use Rattle.std.specs.Prelude.{ℕ, List, [], ◌∷◌, ◌++◌, reverse}
+-- "The outside" in docs/rules.md.
+use Rattle.std.specs.Prelude.{◌≡◌, ℕ, List, ⊤, [], ◌∷◌, ◌++◌, reverse}
 use Rattle.std.specs.Option.{option_map}
 use Rattle.std.specs.List.{find}
 use Rattle.std.specs.Str.{bytes_eq}
@@ -8,6 +9,8 @@ use Rattle.sl_ports.specs.Calls.{Tally}
 use Rattle.sl_ports.specs.Files.{Files}
 use Rattle.sl_ports.specs.declared.sinks.SinkAnswer.{SinkAnswer}
 use Rattle.sl_ports.specs.declared.sinks.SinkAnswer.TheVariants.{Done, Failed}
+use Rattle.sl_ports.specs.declared.keepers.FileAnswer.{FileAnswer}
+use Rattle.sl_ports.specs.declared.keepers.FileAnswer.TheVariants.{Bytes, Missing, Failed as Unread, Memory as Lacking}
 use Rattle.sl_ports.specs.declared.keepers.KeepAnswer.{KeepAnswer}
 use Rattle.sl_ports.specs.declared.keepers.KeepAnswer.TheVariants.{Done as Kept, Failed as Refused, Memory}
 
@@ -41,3 +44,10 @@ abbrev pub written_after : List File → File → KeepAnswer → List File
 written_after written file Kept = written ++ file ∷ []
 written_after written file Refused = written
 written_after written file Memory = written
+
+-- the answer has these bytes, or memory was refused
+abbrev pub IsCopy : List ℕ → FileAnswer → Type 0
+IsCopy bytes (Bytes v) = v.items ≡ bytes
+IsCopy bytes Missing = ⊥
+IsCopy bytes Unread = ⊥
+IsCopy bytes Lacking = ⊤

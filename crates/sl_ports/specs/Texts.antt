@@ -1,6 +1,7 @@
 -- A sink takes bytes and puts them behind those that it holds.
 -- A write that is done appended all of its bytes, and one that failed appended a prefix of them, maybe none or all.
 -- What a sink holds may be untold: then nothing is said of it.
+-- "The outside" in docs/rules.md.
 use Rattle.std.specs.Prelude.{◌≡◌, ◌⊎◌, ℕ, Bool, true, false, List, Option, ◌++◌}
 use Rattle.std.specs.Io.KnownBytes.{Appends}
 use Rattle.sl_base.specs.Counting.{Rose}

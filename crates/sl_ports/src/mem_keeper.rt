@@ -5,8 +5,8 @@ ghost use Rattle.std.specs.Option.{option_copied};
 ghost use Rattle.std.specs.Str.{bytes_eq};
 ghost use Rattle.sl_ports.specs.Calls.{untried, is_to_fail, counted};
 ghost use Rattle.sl_ports.specs.Keeping.{is_failed as write_failed};
-ghost use Rattle.sl_ports.specs.MemoryEnds.{files_of, written_after};
-ghost use Rattle.sl_ports.specs.Reading.{Reads, is_failed as read_failed};
+ghost use Rattle.sl_ports.specs.MemoryEnds.{files_of, written_after, IsCopy};
+ghost use Rattle.sl_ports.specs.Reading.{Reads, ReadsWithin, is_failed_within, is_failed as read_failed};
 
 use crate::calls::Calls;
 use crate::keepers::{FileAnswer, KeepAnswer, Keeper};
@@ -40,6 +40,16 @@ impl StoredFile {
         ensures { result.now ≡ self.now.bytes }
     {
         self.bytes.as_slice()
+    }
+}
+
+/// The answer that has these bytes.
+fn copied(alloc: Global, bytes: &[u8]) -> FileAnswer
+    ensures { IsCopy bytes.now result }
+{
+    match Vec::from_slice(alloc, bytes) {
+        Ok(copy) => FileAnswer::Bytes(copy),
+        Err(_) => FileAnswer::Memory,
     }
 }
 
@@ -115,10 +125,24 @@ impl Keeper for MemKeeper {
         }
         match self.file(name) {
             None => FileAnswer::Missing,
-            Some(bytes) => match Vec::from_slice(alloc, bytes) {
-                Ok(copy) => FileAnswer::Bytes(copy),
-                Err(_) => FileAnswer::Memory,
-            },
+            Some(bytes) => copied(alloc, bytes),
+        }
+    }
+
+    fn read_file_within(&mut self, alloc: Global, name: &Name, most: usize) -> Option<FileAnswer>
+        ensures listed { is_failed_within result ≡ is_to_fail self.old.reads }
+        ensures value { ReadsWithin (Some (files_of self.old.written)) name.now most result }
+        ensures after { self.new ≡ record self.old {
+          reads = counted self.old.reads (is_failed_within result);
+        } }
+    {
+        if self.reads.count() {
+            return Some(FileAnswer::Failed);
+        }
+        match self.file(name) {
+            None => Some(FileAnswer::Missing),
+            Some(bytes) if bytes.len() > most => None,
+            Some(bytes) => Some(copied(alloc, bytes)),
         }
     }
 

@@ -1,5 +1,6 @@
 //! Each end once, over memory and over real files and streams.
 
+use crate::dir_keeper::NEW_FILE;
 use crate::keepers::{FileAnswer, KeepAnswer, Keeper};
 use crate::sinks::{Sink, SinkAnswer};
 use crate::{DirKeeper, MemKeeper, MemSink, StdSink};
@@ -18,6 +19,13 @@ fn told(answer: &FileAnswer) -> &[u8] {
         FileAnswer::Missing => b"(missing)".as_slice(),
         FileAnswer::Failed => b"(failed)".as_slice(),
         FileAnswer::Memory => b"(memory)".as_slice(),
+    }
+}
+
+fn told_within(answer: &Option<FileAnswer>) -> &[u8] {
+    match answer {
+        Some(answer) => told(answer),
+        None => b"(longer)".as_slice(),
     }
 }
 
@@ -52,6 +60,14 @@ fn a_memory_keeper_fails_at_the_listed_calls(rt: HostRuntime) -> Result<(), Fail
     assert_eq!(rt; keeper.write_file(alloc, &take, b"third"), KeepAnswer::Done);
     assert_eq!(rt; told(&keeper.read_file(alloc, &take)), b"third".as_slice());
     assert_eq!(rt; keeper.file(&other).ok_or("other")?, b"other".as_slice());
+    assert_eq!(rt;
+        told_within(&keeper.read_file_within(alloc, &other, 5)),
+        b"other".as_slice()
+    );
+    assert_eq!(rt;
+        told_within(&keeper.read_file_within(alloc, &other, 4)),
+        b"(longer)".as_slice()
+    );
     assert!(rt; keeper.file(&name("none")?).is_none());
     Ok(())
 }
@@ -69,8 +85,13 @@ fn a_real_file_is_read_as_it_was_written(rt: HostRuntime) -> Result<(), Fail> {
     );
     let read = keeper.read_file(alloc, &file);
     assert_eq!(rt; told(&read), long.as_slice());
+    let read = keeper.read_file_within(alloc, &file, 150000);
+    assert_eq!(rt; told_within(&read), long.as_slice());
+    let read = keeper.read_file_within(alloc, &file, 149999);
+    assert_eq!(rt; told_within(&read), b"(longer)".as_slice());
     assert_eq!(rt; keeper.write_file(alloc, &file, b"short"), KeepAnswer::Done);
     assert_eq!(rt; told(&keeper.read_file(alloc, &file)), b"short".as_slice());
+    assert!(rt; !fs::exists(&rt, NEW_FILE)?, "the new file has its name");
     fs::remove_file(&rt, file.as_str())?;
     assert_eq!(rt;
         told(&keeper.read_file(alloc, &file)),
@@ -88,6 +109,7 @@ fn a_directory_is_neither_read_nor_written(rt: HostRuntime) -> Result<(), Fail> 
     let read = keeper.read_file(alloc, &folder);
     let wrote = keeper.write_file(alloc, &folder, b"bytes");
     fs::remove_dir(&rt, folder.as_str())?;
+    assert!(rt; !fs::exists(&rt, NEW_FILE)?, "no rest is left");
     assert_eq!(rt; told(&read), b"(failed)".as_slice());
     assert_eq!(rt; wrote, KeepAnswer::Failed);
     Ok(())
