@@ -1,9 +1,11 @@
 //! `looper`: the program. It hands its words to `looper_cli` over the working directory and standard output.
 #![tactic(auto)]
 
-use looper_cli::plain_run;
+use looper_cli::{Status, plain_run};
 use sl_ports::{DirKeeper, Sink, SinkAnswer, StdSink};
+use std::env::FillError;
 use std::process::ExitCode;
+use std::rt::Env;
 use std::{env, io};
 
 const USAGE: &str = "looper: records a phrase into a loop and lets it repeat
@@ -19,27 +21,58 @@ status: 0 done, 2 other words, 3 a bad file, 4 a reading failed,
         5 a write failed, 8 out of memory
 ";
 
-/// The words behind the program's name. A word that isn't UTF-8 is no word of the grammar, so there are none then.
+/// The arguments behind the program's path. The path isn't read: it is no word, and may be any bytes.
+#[derive(Drop)]
+struct BehindPath<'a> {
+    rt: &'a HostRuntime,
+}
+
+impl Env for BehindPath<'_> {
+    fn arg(&self, i: usize, buf: &mut [u8]) -> Result<usize, FillError> {
+        match i.checked_add(1) {
+            Some(next) => self.rt.arg(next, buf),
+            None => Err(FillError::NotPresent),
+        }
+    }
+
+    fn var(&self, name: &str, buf: &mut [u8]) -> Result<usize, FillError> {
+        self.rt.var(name, buf)
+    }
+
+    fn var_at(&self, i: usize, buf: &mut [u8]) -> Result<usize, FillError> {
+        self.rt.var_at(i, buf)
+    }
+}
+
+impl Alloc for BehindPath<'_> {
+    type A = std::alloc::Global;
+
+    fn alloc(&self) -> std::alloc::Global {
+        self.rt.alloc()
+    }
+}
+
+/// The words. One that isn't UTF-8 is no word of the grammar, so there are none then.
 fn words(rt: &HostRuntime) -> io::Result<Vec<String>> {
-    match env::args(rt) {
-        Ok(args) => Ok(args.skip(1).collect(rt.alloc())?),
+    match env::args(&BehindPath { rt }) {
+        Ok(args) => Ok(args.collect(rt.alloc())?),
         Err(e) if e.kind() == io::ErrorKind::InvalidData => Ok(Vec::new(rt.alloc())),
         Err(e) => Err(e),
     }
 }
 
-/// Prints a text that no run is needed for. Its status is 0, or 5 where it can't be written.
-fn print(rt: &HostRuntime, text: &str) -> u8 {
+/// Prints a text that no run is needed for.
+fn print(rt: &HostRuntime, text: &str) -> Status {
     match StdSink::new(rt).write_all(text.as_bytes()) {
-        SinkAnswer::Done => 0,
-        SinkAnswer::Failed => 5,
+        SinkAnswer::Done => Status::Done,
+        SinkAnswer::Failed => Status::WriteFault,
     }
 }
 
 fn status(rt: &HostRuntime, words: &[String]) -> u8 {
     match words {
-        [word] if word.as_str() == "--help" => print(rt, USAGE),
-        [word] if word.as_str() == "--version" => print(rt, "looper 1.0.0\n"),
+        [word] if word.as_str() == "--help" => print(rt, USAGE).number(),
+        [word] if word.as_str() == "--version" => print(rt, "looper 0.1.0\n").number(),
         _ => plain_run(
             rt.alloc(),
             words,
@@ -52,6 +85,6 @@ fn status(rt: &HostRuntime, words: &[String]) -> u8 {
 fn main(rt: HostRuntime) -> ExitCode {
     match words(&rt) {
         Ok(words) => ExitCode::from(status(&rt, &words)),
-        Err(_) => ExitCode::from(8),
+        Err(_) => ExitCode::from(Status::Memory.number()),
     }
 }

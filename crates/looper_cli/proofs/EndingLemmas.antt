@@ -1,5 +1,5 @@
 -- How a run ends, from what its parts did.
-use Rattle.std.proofs.Common.{◌≡◌, ℕ, suc, ◌+◌, ◌-◌, ◌/◌, ◌%◌, ◌≤◌, List, [], ◌∷◌, ◌++◌, length, take, drop, Option, Some, None, ap, sym, ◌∙◌, subst, refl, arith}
+use Rattle.std.proofs.Common.{◌≡◌, ℕ, suc, ◌+◌, ◌-◌, ◌/◌, ◌%◌, ◌≤◌, List, [], ◌∷◌, ◌++◌, length, take, drop, Option, Some, None, ap, sym, ◌∙◌, subst, refl, arith, false, inl, inr}
 use Rattle.std.proofs.lemmas.List.{append-nil, drop_all, length-drop, take_all}
 use Rattle.std.specs.declared.vec.Vec.{Vec}
 use Rattle.std.specs.declared.alloc.Global.{Global}
@@ -11,11 +11,22 @@ use Rattle.wav_pcm.proofs.Mono16Lemmas.{reading_is_in_bytes, text_has_header, wa
 use Rattle.looper_rules.specs.OneLoop.{OneLoop, idle, after, hit_at, run_from, one_run}
 use Rattle.looper_cli.specs.FirstJournal.{IsFirstJournal}
 use Rattle.looper_cli.specs.Words.{FileNames}
-use Rattle.looper_cli.specs.Contents.{AreBytes}
-use Rattle.looper_cli.specs.Inputs.{Has, IsInput}
-use Rattle.looper_cli.specs.OneRun.{told}
-use Rattle.looper_cli.specs.Endings.{IsMadeOf, IsOutOf, MadeFrom, Renders}
-use Rattle.looper_cli.specs.Console.{done_text}
+use Rattle.std.specs.String.{string_bytes}
+use Rattle.std.specs.declared.string.String.{String}
+use Rattle.std.specs.Io.KnownBytes.{Appends}
+use Rattle.sl_base.specs.Counting.{Rose}
+use Rattle.sl_ports.specs.Texts.{AppendsPrefix}
+use Rattle.sl_ports.specs.Effects.{OnlyReads}
+use Rattle.sl_ports.specs.declared.keepers.Keeper.{Ghosts as Keeper}
+use Rattle.sl_ports.specs.declared.sinks.Sink.{Ghosts as Sink}
+use Rattle.looper_cli.specs.Inputs.{Has, HasFault, IsInput, IsJournal, AreBytes, SaysOf, is_reading}
+use Rattle.looper_cli.specs.declared.status.RunFault.{RunFault}
+use Rattle.looper_cli.specs.declared.status.RunFault.TheVariants.{BadFile as IsBad, Reading, Writing, Memory as Lacking}
+use Rattle.looper_cli.specs.declared.status.Status.{Status}
+use Rattle.looper_cli.specs.declared.status.Status.TheVariants.{Done, Words, BadFile, ReadFault, WriteFault, Memory}
+use Rattle.looper_cli.specs.OneRun.{mono_samples}
+use Rattle.looper_cli.specs.Endings.{IsMadeOf, IsOutOf, MadeFrom, Renders, StaysWhole, FailsBy, Ends}
+use Rattle.looper_cli.specs.Console.{done_text, TellsDone}
 
 -- what was made is written and told
 pub renders_from :
@@ -61,7 +72,7 @@ made_from names files input hits out text is there journal made =
 -- what is heard, written over all samples of IN, makes OUT
 pub samples_make_out :
     (input hits given slice out : List ℕ) → given ≡ hits → out ≡ take 44 input ++ (slice ++ drop (length input - 44) (drop 44 input)) →
-    slice ≡ told (one_run given (sounds (take (length input - 44) (drop 44 input)))) → IsOutOf input hits out
+    slice ≡ mono_samples (one_run given (sounds (take (length input - 44) (drop 44 input)))) → IsOutOf input hits out
 samples_make_out input hits given slice out same whole written = λ frames rate read.
     let header : List ℕ = wav_header (samples_size (length frames) 1 16) 1 16 rate in
     let heard : List Sound = one_run hits frames in
@@ -72,9 +83,9 @@ samples_make_out input hits given slice out same whole written = λ frames rate 
     let first : take 44 input ≡ header = (text_has_header input frames rate read.readable read.spelled).header in
     whole
     ∙ ap (λ rest. take 44 input ++ (slice ++ rest)) none
-    ∙ ap (λ bytes. take 44 input ++ bytes) (append-nil slice ∙ written ∙ ap (λ hs. told (one_run hs (sounds (take (length input - 44) (drop 44 input))))) same ∙ ap (λ bytes. told (one_run hits (sounds bytes))) all ∙ ap (λ xs. told (one_run hits xs)) (sym spelled))
-    ∙ ap (λ bytes. bytes ++ told heard) first
-    ∙ ap (λ len. wav_header (samples_size len 1 16) 1 16 rate ++ told heard) (sym (length-one_run hits frames))
+    ∙ ap (λ bytes. take 44 input ++ bytes) (append-nil slice ∙ written ∙ ap (λ hs. mono_samples (one_run hs (sounds (take (length input - 44) (drop 44 input))))) same ∙ ap (λ bytes. mono_samples (one_run hits (sounds bytes))) all ∙ ap (λ xs. mono_samples (one_run hits xs)) (sym spelled))
+    ∙ ap (λ bytes. bytes ++ mono_samples heard) first
+    ∙ ap (λ len. wav_header (samples_size len 1 16) 1 16 rate ++ mono_samples heard) (sym (length-one_run hits frames))
     ∙ sym (wav_text-mono16 heard rate)
 
 -- OUT takes the place of IN in its vector
@@ -112,3 +123,46 @@ made_of input hits out text count entries made frames_are entries_are told_are =
       ∙ ap (λ n. done_text n entries) (frames_are ∙ sym (frames_of_input input frames rate read))
       ∙ ap (λ n. done_text (length frames) n) entries_are;
 }
+
+-- IN was read, so it is in its form
+input_there : (files : Option Files) (name : List ℕ) (input : Vec ℕ Global) → IsInput input.items → Has (AreBytes input) files name → Has IsInput files name
+input_there None name input is there = tt
+input_there (Some files) name input is there = (there.0, there.1, subst IsInput (sym there.2) is)
+
+-- where JOURNAL gives nothing behind an IN that was read, the run ends by that fault
+pub journal_fails :
+    {P : Type 0} (k : Keeper P) (names : FileNames) (old middle new : P) (fault : RunFault) (input : Vec ℕ Global) →
+    OnlyReads k old middle false → OnlyReads k middle new (is_reading fault) → IsInput input.items → Has (AreBytes input) (k.files old) names.input →
+    SaysOf fault IsJournal (k.files middle) names.journal → FailsBy k names old new fault
+journal_fails k names old middle new (IsBad name fault) input first second is there says =
+    let journal = subst (λ files. HasFault fault IsJournal files names.journal) first.files says.1
+    in (inr (says.0, input_there (k.files old) names.input input is there, journal), second.files ∙ first.files)
+journal_fails k names old middle new Reading input first second is there says =
+    (subst (λ count. Rose count (k.read_faults new)) (first.counts.stayed refl) (second.counts.rose refl), second.files ∙ first.files)
+journal_fails k names old middle new Writing input first second is there says = absurd says
+journal_fails k names old middle new Lacking input first second is there says = second.files ∙ first.files
+
+-- what is made of the files that were read one after the other
+pub made_from_read :
+    {P : Type 0} (k : Keeper P) (names : FileNames) (old middle new : P) (input : Vec ℕ Global) (hits out text : List ℕ) →
+    OnlyReads k old middle false → OnlyReads k middle new false → IsInput input.items → Has (AreBytes input) (k.files old) names.input →
+    Has (λ bytes. IsFirstJournal bytes hits) (k.files middle) names.journal → IsMadeOf input.items hits out text → MadeFrom names (k.files new) out text
+made_from_read k names old middle new input hits out text first second is there journal made =
+    let now : k.files new ≡ k.files old = second.files ∙ first.files
+    in made_from names (k.files new) input hits out text is
+    (subst (λ files. Has (AreBytes input) files names.input) (sym now) there)
+    (subst (λ files. Has (λ bytes. IsFirstJournal bytes hits) files names.journal) (sym second.files) journal) made
+
+-- a run that is done ends by how its text is told
+pub done_ends :
+    {P C : Type 0} (k : Keeper P) (s : Sink C) (names : FileNames) (old new : P) (before after : C) (text : String Global) (bytes : List ℕ) (status : Status) →
+    Renders names (k.files old) (k.files new) (λ done. string_bytes text ≡ done) × StaysWhole k old new →
+    bytes ≡ string_bytes text → TellsDone s before after bytes status → Ends k s names old new before after status
+done_ends k s names old new before after text bytes Done left same told =
+    (record { inputs = left.0.inputs; out = left.0.out; summary = subst (Appends (s.held before) (s.held after)) (same ∙ left.0.summary) told.0 }, left.1, told.1)
+done_ends k s names old new before after text bytes WriteFault left same told =
+    inr (told.0, record { inputs = left.0.inputs; out = left.0.out; summary = subst (AppendsPrefix (s.held before) (s.held after)) (same ∙ left.0.summary) told.1 })
+done_ends k s names old new before after text bytes Words left same told = told
+done_ends k s names old new before after text bytes BadFile left same told = absurd told
+done_ends k s names old new before after text bytes ReadFault left same told = absurd told
+done_ends k s names old new before after text bytes Memory left same told = absurd told

@@ -11,7 +11,7 @@ use Rattle.std.proofs.lemmas.List.{append_assoc, take_at, drop_at, length-append
 use Rattle.std.proofs.lemmas.Option.{same_Some, none-some}
 use Rattle.looper_cli.specs.FirstJournal.{hit_line, hit_lines, end_line, AreHits, IsFirstJournal}
 use Rattle.looper_cli.specs.FirstReading.{hit_tail, LacksSpace, IsCutAtSpace, BeginsWithHit}
-use Rattle.looper_cli.specs.declared.first_journal.TheConstants.{GREATEST_FRAME}
+use Rattle.sl_base.specs.Limits.{max_session_frames}
 use Rattle.text_lines.specs.Numerals.{IsNumeralOf}
 use Rattle.text_lines.proofs.NumeralLemmas.{own}
 use Rattle.text_lines.proofs.IntegerLemmas.{numeral_is_one}
@@ -61,7 +61,7 @@ cut_at_space bytes front rest at found is_front is_rest = record {
 }
 
 -- a frame fits 64 bits
-frame_fits : (frame : ℕ) → frame ≤ GREATEST_FRAME → frame < 2 ^ 64
+frame_fits : (frame : ℕ) → frame ≤ max_session_frames → frame < 2 ^ 64
 frame_fits frame within = omega arith
 
 -- a hit's line from its first space on, and then what follows
@@ -69,11 +69,11 @@ tail_then : (seq : ℕ) (behind : List ℕ) → hit_tail seq ++ behind ≡ 32 �
 tail_then seq behind = ap (λ t. 32 ∷ 48 ∷ 32 ∷ t) (append_assoc (decimal seq) (codes " hit 0 record" ++ (10 ∷ [])) behind)
 
 -- no space stands before the first one of a hit's line
-pub before_space : (frame : ℕ) → frame ≤ GREATEST_FRAME → LacksSpace (decimal frame)
+pub before_space : (frame : ℕ) → frame ≤ max_session_frames → LacksSpace (decimal frame)
 before_space frame within = digits_lack_space (decimal frame) (digits_decimal own frame (frame_fits frame within))
 
 -- a frame has few digits
-frame_is_short : (frame : ℕ) → frame ≤ GREATEST_FRAME → frame < 10 ^ 19
+frame_is_short : (frame : ℕ) → frame ≤ max_session_frames → frame < 10 ^ 19
 frame_is_short frame within = omega arith
 
 -- the parts of a hit's line at its first space
@@ -100,10 +100,10 @@ same_hit lines xs ys seq f g first second =
 
 -- the frames of lines are in range
 abbrev AreWithin : List ℕ → Type 0
-AreWithin frames = AllByRecursion (λ frame. frame ≤ GREATEST_FRAME) frames
+AreWithin frames = AllByRecursion (λ frame. frame ≤ max_session_frames) frames
 
 -- `end` is no hit's line
-not_end : (frame seq : ℕ) (rest : List ℕ) → frame ≤ GREATEST_FRAME → end_line ≡ hit_line frame seq rest → ⊥
+not_end : (frame seq : ℕ) (rest : List ℕ) → frame ≤ max_session_frames → end_line ≡ hit_line frame seq rest → ⊥
 not_end frame seq rest within is = some_space end_line (decimal frame) (after_space seq rest) refl (before_space frame within) is
 
 -- lines are those of one list of hits

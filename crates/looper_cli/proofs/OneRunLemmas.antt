@@ -12,11 +12,11 @@ use Rattle.wav_pcm.specs.WavText.{frame_bytes}
 use Rattle.wav_pcm.proofs.Mono16Lemmas.{sounds-append, length-sounds}
 use Rattle.looper_rules.specs.OneLoop.{OneLoop, hit, heard, after, heard_over, after_over, hit_at, run_from}
 use Rattle.looper_cli.specs.FirstJournal.{NeverFallsFrom}
-use Rattle.looper_cli.specs.OneRun.{told, part, LoopRunsPart, RunsPart, RunsOver, HasCome}
+use Rattle.looper_cli.specs.OneRun.{mono_samples, part, LoopRunsPart, RunsPart, RunsOver, HasCome}
 
 -- the samples of frames behind frames
-told-append : (xs ys : List Sound) → told (xs ++ ys) ≡ told xs ++ told ys
-told-append xs ys = flat_map-append (frame_bytes 1 16) xs ys
+mono_samples-append : (xs ys : List Sound) → mono_samples (xs ++ ys) ≡ mono_samples xs ++ mono_samples ys
+mono_samples-append xs ys = flat_map-append (frame_bytes 1 16) xs ys
 
 -- the loop after frames behind frames
 after_over-append : (loop : OneLoop) (xs ys : List Sound) → after_over loop (xs ++ ys) ≡ after_over (after_over loop xs) ys
@@ -91,7 +91,7 @@ nothing_runs (Some loop) bytes done =
     in let empty : part bytes done done ≡ [] = ap (λ n. sounds (take n (drop (2 * done) bytes))) none
     in record {
       goes_on = ap (λ xs. Some (after_over loop xs)) (sym empty);
-      written = sym (ap (λ xs. take (2 * done) bytes ++ told (heard_over loop xs)) empty ∙ append-nil (take (2 * done) bytes));
+      written = sym (ap (λ xs. take (2 * done) bytes ++ mono_samples (heard_over loop xs)) empty ∙ append-nil (take (2 * done) bytes));
       kept = refl;
     }
 
@@ -113,10 +113,10 @@ parts_join (Some loop) middle left old between new done at until order later wit
       goes_on = onward.goes_on ∙ ap (λ zs. Some (after_over (after_over loop xs) zs)) same
           ∙ ap Some (sym (ap (after_over loop) split ∙ after_over-append loop xs ys));
       written = onward.written
-          ∙ ap (λ zs. take (2 * at) between ++ told (heard_over (after_over loop xs) zs)) same
-          ∙ ap (λ zs. zs ++ told (heard_over (after_over loop xs) ys)) first.written
-          ∙ append_assoc (take (2 * done) old) (told (heard_over loop xs)) (told (heard_over (after_over loop xs) ys))
-          ∙ ap (λ zs. take (2 * done) old ++ zs) (sym (ap told heard_of ∙ told-append (heard_over loop xs) (heard_over (after_over loop xs) ys)));
+          ∙ ap (λ zs. take (2 * at) between ++ mono_samples (heard_over (after_over loop xs) zs)) same
+          ∙ ap (λ zs. zs ++ mono_samples (heard_over (after_over loop xs) ys)) first.written
+          ∙ append_assoc (take (2 * done) old) (mono_samples (heard_over loop xs)) (mono_samples (heard_over (after_over loop xs) ys))
+          ∙ ap (λ zs. take (2 * done) old ++ zs) (sym (ap mono_samples heard_of ∙ mono_samples-append (heard_over loop xs) (heard_over (after_over loop xs) ys)));
       kept = onward.kept ∙ sym (drop_to at until between later) ∙ ap (drop (2 * until - 2 * at)) first.kept ∙ drop_to at until old later;
     }
 
@@ -180,11 +180,11 @@ part_runs whole old new hits loop left done until order within rises so_far runs
     ap (λ zs. run_from hits done loop zs) split
     ∙ run_to_hit hits done loop xs rest (subst (λ n. NeverFallsFrom n hits) (sym ends) rises)
     ∙ ap (λ n. heard_over loop xs ++ run_from hits n l rest) ends
-    in let now : take (2 * until) new ++ told (run_from hits until l (sounds (drop (2 * until) new))) ≡ whole =
-    ap (λ zs. take (2 * until) new ++ told (run_from hits until l (sounds zs))) runs.kept
-    ∙ ap (λ zs. zs ++ told (run_from hits until l rest)) runs.written
-    ∙ append_assoc (take (2 * done) old) (told (heard_over loop xs)) (told (run_from hits until l rest))
-    ∙ ap (λ zs. take (2 * done) old ++ zs) (sym (ap told on ∙ told-append (heard_over loop xs) (run_from hits until l rest)))
+    in let now : take (2 * until) new ++ mono_samples (run_from hits until l (sounds (drop (2 * until) new))) ≡ whole =
+    ap (λ zs. take (2 * until) new ++ mono_samples (run_from hits until l (sounds zs))) runs.kept
+    ∙ ap (λ zs. zs ++ mono_samples (run_from hits until l rest)) runs.written
+    ∙ append_assoc (take (2 * done) old) (mono_samples (heard_over loop xs)) (mono_samples (run_from hits until l rest))
+    ∙ ap (λ zs. take (2 * done) old ++ zs) (sym (ap mono_samples on ∙ mono_samples-append (heard_over loop xs) (run_from hits until l rest)))
     ∙ so_far
     in subst (λ state. HasCome whole state until hits new) (sym runs.goes_on) now
 
@@ -203,11 +203,11 @@ hit_goes_on whole bytes h hs (Some loop) until (inl at) so_far =
     let xs = sounds (drop (2 * until) bytes)
     in let acts : run_from (h ∷ hs) until loop xs ≡ run_from hs until (hit loop) xs =
     subst (λ n. run_from (h ∷ hs) n loop xs ≡ run_from hs n (hit loop) xs) (sym at) (hit_acts h hs loop xs)
-    in sym (ap (λ zs. take (2 * until) bytes ++ told zs) acts) ∙ so_far
+    in sym (ap (λ zs. take (2 * until) bytes ++ mono_samples zs) acts) ∙ so_far
 hit_goes_on whole bytes h hs (Some loop) until (inr none) so_far =
     let rests : run_from (h ∷ hs) until loop (sounds (drop (2 * until) bytes)) ≡ run_from hs until (hit loop) (sounds (drop (2 * until) bytes)) =
     subst (λ zs. run_from (h ∷ hs) until loop (sounds zs) ≡ run_from hs until (hit loop) (sounds zs)) (sym none) refl
-    in sym (ap (λ zs. take (2 * until) bytes ++ told zs) rests) ∙ so_far
+    in sym (ap (λ zs. take (2 * until) bytes ++ mono_samples zs) rests) ∙ so_far
 
 -- nothing is left behind the end of a list
 pub drop_all : {X : Type 0} (count : ℕ) (xs : List X) → length xs ≤ count → drop count xs ≡ []
@@ -243,5 +243,5 @@ last_part_runs whole old new (Some loop) left len done size same within so_far r
     (part_runs whole old new [] loop left done len within (omega (arith, size)) tt so_far runs)
     in let none : drop (2 * len) new ≡ [] = drop_all (2 * len) new (omega (arith, same))
     in let all : take (2 * len) new ≡ new = subst (λ n. take n new ≡ new) same (take-length new)
-    in let rest : told (run_from [] len l (sounds (drop (2 * len) new))) ≡ [] = ap (λ zs. told (run_from [] len l (sounds zs))) none
+    in let rest : mono_samples (run_from [] len l (sounds (drop (2 * len) new))) ≡ [] = ap (λ zs. mono_samples (run_from [] len l (sounds zs))) none
     in sym (ap (λ zs. take (2 * len) new ++ zs) rest ∙ append-nil (take (2 * len) new) ∙ all) ∙ come

@@ -5,24 +5,32 @@
 -- - ReadFault: the keeper's count of readings rose. No file changed.
 -- - WriteFault: the keeper's count of writes rose and no file changed; or the console's count rose, and the files are
 --   those of a run that is done.
--- - Memory: no file changed.
+-- - Memory: no file changed, and nothing was told.
 -- The console has the text of the status, or a prefix of it, and then only where its count rose.
-use Rattle.std.specs.Prelude.{◌≡◌, ◌⊎◌, ℕ, Option, List, length}
+-- "Statuses" in docs/formats.md.
+use Rattle.std.specs.Prelude.{◌≡◌, ◌⊎◌, ℕ, Option, List, length, Result, Ok, Err}
+use Rattle.std.specs.String.{string_bytes}
+use Rattle.std.specs.declared.string.String.{String}
+use Rattle.std.specs.declared.alloc.Global.{Global}
 use Rattle.std.specs.Io.KnownBytes.{Appends}
 use Rattle.sl_base.specs.Sounds.{Sound}
 use Rattle.sl_base.specs.Counting.{Rose}
+use Rattle.sl_ports.specs.Effects.{TellsTo}
 use Rattle.sl_ports.specs.Files.{Files, put_told}
-use Rattle.sl_ports.specs.Texts.{AppendsPrefix, Tells}
+use Rattle.sl_ports.specs.Texts.{AppendsPrefix}
+use Rattle.sl_ports.specs.declared.keepers.Keeper.{Ghosts as Keeper}
+use Rattle.sl_ports.specs.declared.sinks.Sink.{Ghosts as Sink}
 use Rattle.wav_pcm.specs.Mono16.{IsMono16}
 use Rattle.wav_pcm.specs.WavText.{wav_text}
 use Rattle.looper_rules.specs.OneLoop.{one_run}
 use Rattle.looper_cli.specs.Words.{FileNames}
 use Rattle.looper_cli.specs.FirstJournal.{IsFirstJournal}
 use Rattle.looper_cli.specs.Inputs.{Has, HasFault, IsInput, IsJournal}
-use Rattle.looper_cli.specs.Console.{bad_file_text, done_text, read_fault_text, write_fault_text}
+use Rattle.looper_cli.specs.Console.{bad_file_text, done_text}
+use Rattle.looper_cli.specs.Statuses.{status_line}
 use Rattle.looper_cli.specs.declared.status.FileFault.{FileFault}
-use Rattle.looper_cli.specs.declared.files.Unread.{Unread}
-use Rattle.looper_cli.specs.declared.files.Unread.TheVariants.{Bad, Failed, Memory as Lacking}
+use Rattle.looper_cli.specs.declared.status.RunFault.{RunFault}
+use Rattle.looper_cli.specs.declared.status.RunFault.TheVariants.{BadFile as IsBad, Reading, Writing, Memory as Lacking}
 use Rattle.looper_cli.specs.declared.status.Status.{Status}
 use Rattle.looper_cli.specs.declared.status.Status.TheVariants.{Done, Words, BadFile, ReadFault, WriteFault, Memory}
 
@@ -65,6 +73,29 @@ IsFirstBad names files name fault =
     ((name ≡ names.input) × HasFault fault IsInput files names.input)
     ⊎ ((name ≡ names.journal) × Has IsInput files names.input × HasFault fault IsJournal files names.journal)
 
+-- no count of the keeper rose
+pub record StaysWhole {P : Type 0} (k : Keeper P) (old new : P) : Type 0 where
+  pub reads : k.read_faults new ≡ k.read_faults old
+  pub writes : k.write_faults new ≡ k.write_faults old
+
+-- OUT couldn't be written
+pub record FailsToWrite {P : Type 0} (k : Keeper P) (names : FileNames) (old new : P) : Type 0 where
+  pub inputs : Inputs names (k.files old)
+  pub rose : Rose (k.write_faults old) (k.write_faults new)
+  pub unchanged : k.files new ≡ k.files old
+
+-- what a run that isn't done leaves, by its fault
+abbrev pub FailsBy : {P : Type 0} → Keeper P → FileNames → P → P → RunFault → Type 0
+FailsBy k names old new (IsBad name fault) = IsFirstBad names (k.files old) name fault × (k.files new ≡ k.files old)
+FailsBy k names old new Reading = Rose (k.read_faults old) (k.read_faults new) × (k.files new ≡ k.files old)
+FailsBy k names old new Writing = FailsToWrite k names old new
+FailsBy k names old new Lacking = k.files new ≡ k.files old
+
+-- what a run does to the keeper's files, by its answer: the summary, or a fault
+abbrev pub Leaves : {P : Type 0} → Keeper P → FileNames → P → P → Result (String Global) RunFault → Type 0
+Leaves k names old new (Ok text) = Renders names (k.files old) (k.files new) (λ done. string_bytes text ≡ done) × StaysWhole k old new
+Leaves k names old new (Err fault) = FailsBy k names old new fault
+
 -- the first bad file is told so
 pub record NamesBad (names : FileNames) (files : Option Files) (Told : List ℕ → Type 0) : Type 0 where
   pub name : List ℕ
@@ -72,49 +103,15 @@ pub record NamesBad (names : FileNames) (files : Option Files) (Told : List ℕ 
   pub first : IsFirstBad names files name fault
   pub text : Told (bad_file_text name fault)
 
--- OUT couldn't be written, and this is told so
-pub record FailsToWrite (names : FileNames) (before after : Option Files) (count now : ℕ) (Told : List ℕ → Type 0) : Type 0 where
-  pub inputs : Inputs names before
-  pub rose : Rose count now
-  pub unchanged : after ≡ before
-  pub text : Told write_fault_text
-
--- what keeper and console were before a run and are after it: counts of faults, files, and the text told
-pub record Around : Type 0 where
-  pub reads_before : ℕ
-  pub reads : ℕ
-  pub writes_before : ℕ
-  pub writes : ℕ
-  pub files_before : Option Files
-  pub files : Option Files
-  pub faults_before : ℕ
-  pub faults : ℕ
-  pub text_before : Option (List ℕ)
-  pub text : Option (List ℕ)
-
--- the console has this text, or a prefix of it where its count rose
-abbrev pub TellsAround : Around → List ℕ → Type 0
-TellsAround a text = Tells a.faults_before a.faults a.text_before a.text text
-
--- no count rose
-pub record Stays (a : Around) : Type 0 where
-  pub reads : a.reads ≡ a.reads_before
-  pub writes : a.writes ≡ a.writes_before
-  pub console : a.faults ≡ a.faults_before
-
 -- what holds where a run ends with a status
-abbrev pub Ends : FileNames → Around → Status → Type 0
-Ends names a Done = Renders names a.files_before a.files (λ text. Appends a.text_before a.text text) × Stays a
-Ends names a Words = ⊥
-Ends names a BadFile = NamesBad names a.files_before (λ text. TellsAround a text) × (a.files ≡ a.files_before)
-Ends names a ReadFault = Rose a.reads_before a.reads × TellsAround a read_fault_text × (a.files ≡ a.files_before)
-Ends names a WriteFault =
-    FailsToWrite names a.files_before a.files a.writes_before a.writes (λ text. TellsAround a text)
-    ⊎ (Rose a.faults_before a.faults × Renders names a.files_before a.files (λ text. AppendsPrefix a.text_before a.text text))
-Ends names a Memory = a.files ≡ a.files_before
-
--- what a run answers and tells where a file gave nothing
-abbrev pub Refuses : Unread → List ℕ → (List ℕ → Type 0) → Status → Type 0
-Refuses (Bad fault) name Told status = (status ≡ BadFile) × Told (bad_file_text name fault)
-Refuses Failed name Told status = (status ≡ ReadFault) × Told read_fault_text
-Refuses Lacking name Told status = status ≡ Memory
+abbrev pub Ends : {P C : Type 0} → Keeper P → Sink C → FileNames → P → P → C → C → Status → Type 0
+Ends k s names old new before after Done =
+    Renders names (k.files old) (k.files new) (Appends (s.held before) (s.held after)) × StaysWhole k old new × (s.faults after ≡ s.faults before)
+Ends k s names old new before after Words = ⊥
+Ends k s names old new before after BadFile = NamesBad names (k.files old) (TellsTo s before after) × (k.files new ≡ k.files old)
+Ends k s names old new before after ReadFault =
+    Rose (k.read_faults old) (k.read_faults new) × TellsTo s before after (status_line ReadFault) × (k.files new ≡ k.files old)
+Ends k s names old new before after WriteFault =
+    (FailsToWrite k names old new × TellsTo s before after (status_line WriteFault))
+    ⊎ (Rose (s.faults before) (s.faults after) × Renders names (k.files old) (k.files new) (AppendsPrefix (s.held before) (s.held after)))
+Ends k s names old new before after Memory = (k.files new ≡ k.files old) × (after ≡ before)

@@ -1,11 +1,11 @@
 -- A journal of one loop is a text of lines, each of which ends with a line feed:
 -- `looper journal 1`, then at most two lines `FRAME 0 SEQ hit 0 record`, then `end` and nothing behind it.
 -- FRAME is the frame before which the hit acts, SEQ numbers the hits from 0 on, and both are decimal.
--- Frames don't fall, and none is greater than 1099511627776.
+-- Frames don't fall, and none is greater than the most frames of a session. "Journal" in docs/formats.md.
 use Rattle.std.specs.Prelude.{ℕ, ◌≡◌, ◌+◌, ◌≤◌, List, [], ◌∷◌, ◌++◌, length, codes, ⊤}
 use Rattle.std.specs.List.{AllByRecursion}
 use Rattle.std.specs.Fmt.{decimal}
-use Rattle.looper_cli.specs.declared.first_journal.TheConstants.{GREATEST_FRAME}
+use Rattle.sl_base.specs.Limits.{max_session_frames}
 
 -- the line of the hit with a number at a frame, and then what follows
 abbrev pub hit_line : ℕ → ℕ → List ℕ → List ℕ
@@ -33,7 +33,7 @@ NeverFallsFrom least (frame ∷ frames) = (least ≤ frame) × NeverFallsFrom fr
 pub record AreHits (frames : List ℕ) : Type 0 where
   pub few : length frames ≤ 2
   pub never_falls : NeverFallsFrom 0 frames
-  pub within : AllByRecursion (λ frame. frame ≤ GREATEST_FRAME) frames
+  pub within : AllByRecursion (λ frame. frame ≤ max_session_frames) frames
 
 -- the bytes are the journal with hits at these frames
 pub record IsFirstJournal (bytes frames : List ℕ) : Type 0 where

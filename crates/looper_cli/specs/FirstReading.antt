@@ -1,9 +1,10 @@
 -- The journal of one loop is read from the front: line by line, and in the line of a hit up to its first space.
+-- "Journal" in docs/formats.md.
 use Rattle.std.specs.Prelude.{ℕ, ◌≡◌, ◌≢◌, ◌≤◌, List, [], ◌∷◌, ◌++◌, codes}
 use Rattle.std.specs.List.{AllByRecursion}
 use Rattle.std.specs.Fmt.{decimal}
 use Rattle.looper_cli.specs.FirstJournal.{hit_line, hit_lines}
-use Rattle.looper_cli.specs.declared.first_journal.TheConstants.{GREATEST_FRAME}
+use Rattle.sl_base.specs.Limits.{max_session_frames}
 
 -- the line of the hit with a number, from its first space on
 abbrev pub hit_tail : ℕ → List ℕ
@@ -20,7 +21,7 @@ pub record IsCutAtSpace (bytes front rest : List ℕ) : Type 0 where
 
 -- the lines begin with the hit with a number at a frame, and the rest follows
 pub record BeginsWithHit (lines : List ℕ) (seq frame : ℕ) (rest : List ℕ) : Type 0 where
-  pub within : frame ≤ GREATEST_FRAME
+  pub within : frame ≤ max_session_frames
   pub spelled : lines ≡ hit_line frame seq rest
 
 -- the hits are the first and those of the lines behind it

@@ -7,5 +7,4 @@ pub mod OneRun
 pub mod Statuses
 pub mod Console
 pub mod Inputs
-pub mod Contents
 pub mod Endings

@@ -1,4 +1,5 @@
 -- What the reading of the words answers: the names that they give, or a fault where they aren't in the grammar.
+-- "The words of the command line" in docs/formats.md.
 use Rattle.std.specs.Prelude.{◌≡◌, Option, Some, None, Result, Ok, Err}
 use Rattle.looper_cli.specs.Words.{FileNames}
 use Rattle.looper_cli.specs.declared.words.Render.{Render}

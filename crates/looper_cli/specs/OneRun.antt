@@ -1,6 +1,7 @@
 -- How far a run of one loop over samples of 16 bits has come: the samples that are written, followed by those that the
 -- hits and the samples that are left will give, are those of the whole run.
 -- A frame's sample has two bytes, so that the samples from a frame on stand behind twice as many bytes.
+-- "The single loop" in docs/rules.md.
 use Rattle.std.specs.Prelude.{◌≡◌, ℕ, ◌-◌, ◌*◌, List, ◌++◌, Option, Some, None, take, drop}
 use Rattle.sl_base.specs.Sounds.{Sound}
 use Rattle.wav_pcm.specs.Mono16.{sounds}
@@ -8,8 +9,8 @@ use Rattle.wav_pcm.specs.WavText.{samples}
 use Rattle.looper_rules.specs.OneLoop.{OneLoop, heard_over, after_over, run_from}
 
 -- the samples of frames, in one channel
-abbrev pub told : List Sound → List ℕ
-told frames = samples 1 16 frames
+abbrev pub mono_samples : List Sound → List ℕ
+mono_samples frames = samples 1 16 frames
 
 -- the frames that the samples from one frame up to another spell
 abbrev pub part : List ℕ → ℕ → ℕ → List Sound
@@ -19,12 +20,12 @@ part bytes done until = sounds (take (2 * until - 2 * done) (drop (2 * done) byt
 abbrev pub RunsOver : Option OneLoop → Option OneLoop → List ℕ → List ℕ → Type 0
 RunsOver None left before after = ⊥
 RunsOver (Some loop) left before after =
-    (left ≡ Some (after_over loop (sounds before))) × (after ≡ told (heard_over loop (sounds before)))
+    (left ≡ Some (after_over loop (sounds before))) × (after ≡ mono_samples (heard_over loop (sounds before)))
 
 -- what a loop and the samples become where the loop runs over a part of them
 pub record LoopRunsPart (loop : OneLoop) (left : Option OneLoop) (before after : List ℕ) (done until : ℕ) : Type 0 where
   pub goes_on : left ≡ Some (after_over loop (part before done until))
-  pub written : take (2 * until) after ≡ take (2 * done) before ++ told (heard_over loop (part before done until))
+  pub written : take (2 * until) after ≡ take (2 * done) before ++ mono_samples (heard_over loop (part before done until))
   pub kept : drop (2 * until) after ≡ drop (2 * until) before
 
 -- what a single loop and the samples become where the loop runs over a part of them: a spent loop stays so
@@ -36,4 +37,4 @@ RunsPart (Some loop) left before after done until = LoopRunsPart loop left befor
 abbrev pub HasCome : List ℕ → Option OneLoop → ℕ → List ℕ → List ℕ → Type 0
 HasCome whole None done hits bytes = ⊥
 HasCome whole (Some loop) done hits bytes =
-    take (2 * done) bytes ++ told (run_from hits done loop (sounds (drop (2 * done) bytes))) ≡ whole
+    take (2 * done) bytes ++ mono_samples (run_from hits done loop (sounds (drop (2 * done) bytes))) ≡ whole

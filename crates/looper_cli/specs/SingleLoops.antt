@@ -1,4 +1,5 @@
 -- The single loop as it runs is a loop, or spent: want of memory spends it for good.
+-- "The single loop" in docs/rules.md.
 use Rattle.std.specs.Prelude.{ℕ, ◌≡◌, ◌<◌, List, Option, Some, None, length, ⊤}
 use Rattle.sl_base.specs.Sounds.{Sound}
 use Rattle.looper_rules.specs.OneLoop.{OneLoop, heard_over, after_over}

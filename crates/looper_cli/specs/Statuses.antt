@@ -1,9 +1,12 @@
--- A run ends with a status, and each status has its number.
-use Rattle.std.specs.Prelude.{◌≡◌, ◌⊎◌, ℕ}
+-- A run ends with a status. Each status has its number, and the line that tells it.
+-- A run that isn't done has a fault, and each fault has its status. "Statuses" in docs/formats.md.
+use Rattle.std.specs.Prelude.{◌≡◌, ◌⊎◌, ℕ, List, [], ◌∷◌, ◌++◌, codes}
 use Rattle.looper_cli.specs.declared.status.Status.{Status}
 use Rattle.looper_cli.specs.declared.status.Status.TheVariants.{Done, Words, BadFile, ReadFault, WriteFault, Memory}
 use Rattle.looper_cli.specs.declared.status.FileFault.{FileFault}
 use Rattle.looper_cli.specs.declared.status.FileFault.TheVariants.{Missing, NotYet}
+use Rattle.looper_cli.specs.declared.status.RunFault.{RunFault}
+use Rattle.looper_cli.specs.declared.status.RunFault.TheVariants.{BadFile as IsBad, Reading, Writing, Memory as Lacking}
 
 -- the number of a status
 abbrev pub status_number : Status → ℕ
@@ -14,10 +17,26 @@ status_number ReadFault = 4
 status_number WriteFault = 5
 status_number Memory = 8
 
--- the number of a fault of a file
-abbrev pub fault_number : FileFault → ℕ
-fault_number Missing = 0
-fault_number NotYet = 99
+-- the line of a status
+abbrev pub status_line : Status → List ℕ
+status_line Done = codes "status 0" ++ (10 ∷ [])
+status_line Words = codes "status 2" ++ (10 ∷ [])
+status_line BadFile = codes "status 3" ++ (10 ∷ [])
+status_line ReadFault = codes "status 4" ++ (10 ∷ [])
+status_line WriteFault = codes "status 5" ++ (10 ∷ [])
+status_line Memory = codes "status 8" ++ (10 ∷ [])
+
+-- the number of a fault of a file, and the line that it is on
+abbrev pub fault_line : FileFault → List ℕ
+fault_line Missing = codes " fault 0 line 0" ++ (10 ∷ [])
+fault_line NotYet = codes " fault 99 line 0" ++ (10 ∷ [])
+
+-- the status of a run that isn't done for this
+abbrev pub status_of : RunFault → Status
+status_of (IsBad _ _) = BadFile
+status_of Reading = ReadFault
+status_of Writing = WriteFault
+status_of Lacking = Memory
 
 -- one of the numbers of a status
 abbrev pub IsStatusNumber : ℕ → Type 0

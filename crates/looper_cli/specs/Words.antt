@@ -1,4 +1,5 @@
 -- The words of the command line are `render IN JOURNAL OUT`, byte for byte, and the last three are names.
+-- "The words of the command line" in docs/formats.md.
 use Rattle.std.specs.Prelude.{ℕ, Bool, ◌&&◌, List, [], ◌∷◌, Option, Some, None, if◌then◌else◌, codes}
 use Rattle.std.specs.Str.{bytes_eq}
 use Rattle.sl_base.specs.Names.{is_name}

@@ -3,15 +3,17 @@
 ghost use Rattle.std.specs.Prelude.{◌≡◌, ℕ, ◌≤◌, ◌<◌, ◌+◌, ◌∷◌, [], ◌++◌, List, ◌↔◌, IsTrue, IfSome, IsNone, IsSomeAnd, codes, length, ◌==◌};
 ghost use Rattle.std.specs.List.{position, AllByRecursion};
 ghost use Rattle.std.specs.Fmt.{decimal};
+ghost use Rattle.sl_base.specs.Limits.{max_session_frames};
 ghost use Rattle.looper_cli.specs.FirstJournal.{hit_line, hit_lines, end_line, AreHits, IsFirstJournal};
 ghost use Rattle.looper_cli.specs.FirstReading.{hit_tail, LacksSpace, IsCutAtSpace, BeginsWithHit, GoesOn};
 
 use arrayvec::ArrayVec;
+use sl_base::MAX_SESSION_FRAMES;
 use std::marker::Model;
 use text_lines::read_numeral;
 
-/// The last frame before which a hit may act.
-pub const GREATEST_FRAME: u64 = 1099511627776;
+/// The bytes of the longest journal: two hits whose frames have thirteen digits.
+pub const MAX_JOURNAL: usize = 83;
 
 /// The frames before which the hits of a journal act: at most two, which don't fall.
 #[derive(Drop)]
@@ -40,7 +42,7 @@ impl Hits {
     }
 
     fn one(frame: u64) -> Hits
-        requires { frame ≤ GREATEST_FRAME }
+        requires { frame ≤ max_session_frames }
         ensures { result ≡ frame ∷ [] }
     {
         let mut frames = ArrayVec::new();
@@ -50,7 +52,7 @@ impl Hits {
 
     fn two(first: u64, second: u64) -> Hits
         requires rises { first ≤ second }
-        requires within { second ≤ GREATEST_FRAME }
+        requires within { second ≤ max_session_frames }
         ensures { result ≡ first ∷ second ∷ [] }
     {
         let mut frames = ArrayVec::new();
@@ -121,7 +123,7 @@ fn after_hit(lines: &[u8], seq: u64) -> Option<(u64, &[u8])>
     let (front, rest) = at_space(lines)?;
     let frame = read_numeral(front)?;
     let rest = after_text(rest, tail(seq))?;
-    if frame > GREATEST_FRAME {
+    if frame > MAX_SESSION_FRAMES {
         return None;
     }
     Some((frame, rest))
@@ -135,7 +137,7 @@ fn is_end(lines: &[u8]) -> bool
 
 /// The hits of the lines behind that of the first hit.
 fn hits_from(first: u64, lines: &[u8]) -> Option<Hits>
-    requires { first ≤ GREATEST_FRAME }
+    requires { first ≤ max_session_frames }
     ensures found { IfSome result (λ hits. GoesOn first lines.now hits) }
     ensures only { IsNone result → (frames : List ℕ) → AreHits (first ∷ frames) → lines.now ≡ hit_lines 1 frames → ⊥ }
 {

@@ -2,21 +2,18 @@
 
 ghost use Rattle.std.specs.Prelude.{◌≡◌, ◌-◌, ◌/◌, length, IfOk, OnOk};
 ghost use Rattle.std.specs.String.{string_bytes};
-ghost use Rattle.sl_ports.specs.Texts.{Tells};
 ghost use Rattle.looper_cli.specs.Console.{done_text};
-ghost use Rattle.looper_cli.specs.Contents.{AreBytes};
-ghost use Rattle.looper_cli.specs.Inputs.{Has, IsInput, AreHitsOf};
+ghost use Rattle.looper_cli.specs.Inputs.{IsInput};
 ghost use Rattle.looper_cli.specs.Named.{names};
-ghost use Rattle.looper_cli.specs.Endings.{Around, Ends, IsMadeOf, IsOutOf, MadeFrom, Refuses};
+ghost use Rattle.looper_cli.specs.Endings.{IsMadeOf, IsOutOf, MadeFrom, Leaves};
 
-use crate::console::{tell, tell_bad_file};
-use crate::files::{Unread, read_input, read_journal};
+use crate::files::{read_input, read_journal};
 use crate::first_journal::Hits;
 use crate::one_run::one_run;
-use crate::status::Status;
+use crate::status::{RunFault, Status};
 use crate::words::Render;
-use sl_base::{Memory, Name};
-use sl_ports::{KeepAnswer, Keeper, Sink, SinkAnswer};
+use sl_base::Memory;
+use sl_ports::{KeepAnswer, Keeper};
 use std::alloc::Global;
 
 /// What a run writes: the bytes of OUT and the text of the console.
@@ -26,30 +23,13 @@ struct Made {
     text: String,
 }
 
-/// Tells why a file gave nothing. It takes no memory.
-fn refuse<C: Sink>(console: &mut C, name: &Name, unread: Unread) -> Status
-    ensures { Refuses unread name.now (Tells (C.faults console.old) (C.faults console.new)
-        (C.held console.old) (C.held console.new)) result }
-{
-    match unread {
-        Unread::Bad(fault) => {
-            tell_bad_file(console, name, fault);
-            Status::BadFile
-        }
-        Unread::Failed => {
-            tell(console, b"status 4\n");
-            Status::ReadFault
-        }
-        Unread::Memory => Status::Memory,
-    }
-}
-
 /// The text of the console for a run that is done.
 fn summary(alloc: Global, frames: usize, entries: usize) -> Result<String, Memory>
     ensures { IfOk result (λ text. string_bytes text ≡ done_text frames entries) }
 {
+    let line = Status::Done.line();
     match format!(in alloc;
-        "frames {frames} entries {entries} replies 0 saves 0 refused 0\nstatus 0\n"
+        "frames {frames} entries {entries} replies 0 saves 0 refused 0\n{line}"
     ) {
         Ok(text) => Ok(text),
         Err(_) => Err(Memory),
@@ -73,142 +53,50 @@ fn write_over(alloc: Global, bytes: &mut [u8], hits: &Hits) -> Result<(), Memory
 }
 
 /// The bytes of OUT, made over those of IN.
-fn out_bytes(alloc: Global, wav: Vec<u8>, hits: &Hits) -> Result<Vec<u8>, Memory>
-    requires { IsInput wav.items }
-    ensures { IfOk result (λ out. IsOutOf wav.items hits.now out.items) }
+fn out_bytes(alloc: Global, input: Vec<u8>, hits: &Hits) -> Result<Vec<u8>, Memory>
+    requires { IsInput input.items }
+    ensures { IfOk result (λ out. IsOutOf input.items hits.now out.items) }
 {
-    let mut out = wav;
+    let mut out = input;
     write_over(alloc, &mut out, hits)?;
     Ok(out)
 }
 
 /// All that a run writes, made before anything is written.
-fn make(alloc: Global, wav: Vec<u8>, hits: &Hits) -> Result<Made, Memory>
-    requires { IsInput wav.items }
-    ensures { IfOk result (λ made. IsMadeOf wav.items hits.now made.out.items (string_bytes made.text)) }
+fn make(alloc: Global, input: Vec<u8>, hits: &Hits) -> Result<Made, Memory>
+    requires { IsInput input.items }
+    ensures { IfOk result (λ made. IsMadeOf input.items hits.now made.out.items (string_bytes made.text)) }
 {
-    let text = summary(alloc, frames_in(&wav), hits.len())?;
-    let out = out_bytes(alloc, wav, hits)?;
+    let text = summary(alloc, frames_in(&input), hits.len())?;
+    let out = out_bytes(alloc, input, hits)?;
     Ok(Made { out, text })
 }
 
-/// Writes OUT and tells the console of it.
-fn write<P: Keeper, C: Sink>(
+/// Writes OUT, and gives the text that tells of it.
+fn write<P: Keeper>(
     alloc: Global,
-    files: &Render,
-    made: &Made,
     keeper: &mut P,
-    console: &mut C,
-) -> Status
-    requires { MadeFrom (names files.now) (P.files keeper.old) made.now.out.items (string_bytes made.now.text) }
-    ensures { Ends (names files.now) (record {
-      reads_before = P.read_faults keeper.old;
-      reads = P.read_faults keeper.new;
-      writes_before = P.write_faults keeper.old;
-      writes = P.write_faults keeper.new;
-      files_before = P.files keeper.old;
-      files = P.files keeper.new;
-      faults_before = C.faults console.old;
-      faults = C.faults console.new;
-      text_before = C.held console.old;
-      text = C.held console.new;
-    }) result }
+    files: &Render,
+    made: Made,
+) -> Result<String, RunFault>
+    requires { MadeFrom (names files.now) (P.files keeper.old) made.out.items (string_bytes made.text) }
+    ensures { Leaves P.Keeper (names files.now) keeper.old keeper.new result }
 {
     match keeper.write_file(alloc, &files.out, &made.out) {
-        KeepAnswer::Done => match console.write_all(made.text.as_bytes()) {
-            SinkAnswer::Done => Status::Done,
-            SinkAnswer::Failed => Status::WriteFault,
-        },
-        KeepAnswer::Failed => {
-            tell(console, b"status 5\n");
-            Status::WriteFault
-        }
-        KeepAnswer::Memory => Status::Memory,
+        KeepAnswer::Done => Ok(made.text),
+        KeepAnswer::Failed => Err(RunFault::Writing),
+        KeepAnswer::Memory => Err(RunFault::Memory),
     }
 }
 
-/// Makes and writes OUT, with both files read.
-fn finish<P: Keeper, C: Sink>(
-    alloc: Global,
-    files: &Render,
-    wav: Vec<u8>,
-    hits: &Hits,
-    keeper: &mut P,
-    console: &mut C,
-) -> Status
-    requires readable { IsInput wav.items }
-    requires input { Has (AreBytes wav) (P.files keeper.old) files.now.input }
-    requires journal { Has (AreHitsOf hits.now) (P.files keeper.old) files.now.journal }
-    ensures { Ends (names files.now) (record {
-      reads_before = P.read_faults keeper.old;
-      reads = P.read_faults keeper.new;
-      writes_before = P.write_faults keeper.old;
-      writes = P.write_faults keeper.new;
-      files_before = P.files keeper.old;
-      files = P.files keeper.new;
-      faults_before = C.faults console.old;
-      faults = C.faults console.new;
-      text_before = C.held console.old;
-      text = C.held console.new;
-    }) result }
+/// Plays IN into the loop with the hits of JOURNAL, writes what is heard to OUT, and gives the text that tells of it.
+pub fn render<P: Keeper>(alloc: Global, keeper: &mut P, files: &Render) -> Result<String, RunFault>
+    ensures { Leaves P.Keeper (names files.now) keeper.old keeper.new result }
 {
-    match make(alloc, wav, hits) {
-        Ok(made) => write(alloc, files, &made, keeper, console),
-        Err(_) => Status::Memory,
-    }
-}
-
-/// Reads JOURNAL, with IN read, and goes on.
-fn go_on<P: Keeper, C: Sink>(
-    alloc: Global,
-    files: &Render,
-    wav: Vec<u8>,
-    keeper: &mut P,
-    console: &mut C,
-) -> Status
-    requires readable { IsInput wav.items }
-    requires input { Has (AreBytes wav) (P.files keeper.old) files.now.input }
-    ensures { Ends (names files.now) (record {
-      reads_before = P.read_faults keeper.old;
-      reads = P.read_faults keeper.new;
-      writes_before = P.write_faults keeper.old;
-      writes = P.write_faults keeper.new;
-      files_before = P.files keeper.old;
-      files = P.files keeper.new;
-      faults_before = C.faults console.old;
-      faults = C.faults console.new;
-      text_before = C.held console.old;
-      text = C.held console.new;
-    }) result }
-{
-    match read_journal(alloc, keeper, &files.journal) {
-        Ok(hits) => finish(alloc, files, wav, &hits, keeper, console),
-        Err(unread) => refuse(console, &files.journal, unread),
-    }
-}
-
-/// Plays IN into the loop with the hits of JOURNAL, and writes what is heard to OUT.
-pub fn render<P: Keeper, C: Sink>(
-    alloc: Global,
-    files: &Render,
-    keeper: &mut P,
-    console: &mut C,
-) -> Status
-    ensures { Ends (names files.now) (record {
-      reads_before = P.read_faults keeper.old;
-      reads = P.read_faults keeper.new;
-      writes_before = P.write_faults keeper.old;
-      writes = P.write_faults keeper.new;
-      files_before = P.files keeper.old;
-      files = P.files keeper.new;
-      faults_before = C.faults console.old;
-      faults = C.faults console.new;
-      text_before = C.held console.old;
-      text = C.held console.new;
-    }) result }
-{
-    match read_input(alloc, keeper, &files.input) {
-        Ok(wav) => go_on(alloc, files, wav, keeper, console),
-        Err(unread) => refuse(console, &files.input, unread),
-    }
+    let input = read_input(alloc, keeper, &files.input)?;
+    let hits = read_journal(alloc, keeper, &files.journal)?;
+    let Ok(made) = make(alloc, input, &hits) else {
+        return Err(RunFault::Memory);
+    };
+    write(alloc, keeper, files, made)
 }

@@ -1,7 +1,9 @@
-//! How a run ends, and what is wrong with a file.
+//! How a run ends, and why it isn't done.
 
 ghost use Rattle.std.specs.Prelude.{◌≡◌};
-ghost use Rattle.looper_cli.specs.Statuses.{status_number};
+ghost use Rattle.looper_cli.specs.Statuses.{status_number, status_line, status_of, fault_line};
+
+use sl_base::Name;
 
 /// How a run ends.
 #[derive(Clone, Copy, Debug, PartialEq, Eq)]
@@ -29,6 +31,19 @@ pub enum FileFault {
     NotYet,
 }
 
+/// Why a run isn't done.
+#[derive(Drop)]
+pub enum RunFault {
+    /// The file of this name is missing, or not in its form.
+    BadFile(Name, FileFault),
+    /// A file could not be read.
+    Reading,
+    /// OUT could not be written.
+    Writing,
+    /// Out of memory.
+    Memory,
+}
+
 impl Status {
     /// The exit status.
     pub fn number(self) -> u8
@@ -41,6 +56,46 @@ impl Status {
             Status::ReadFault => 4,
             Status::WriteFault => 5,
             Status::Memory => 8,
+        }
+    }
+
+    /// The last line of what the console is told.
+    pub fn line(self) -> &'static str
+        ensures { result.now ≡ status_line self }
+    {
+        match self {
+            Status::Done => "status 0\n",
+            Status::Words => "status 2\n",
+            Status::BadFile => "status 3\n",
+            Status::ReadFault => "status 4\n",
+            Status::WriteFault => "status 5\n",
+            Status::Memory => "status 8\n",
+        }
+    }
+}
+
+impl FileFault {
+    /// The number of the fault and the line that it is on, behind the name of the file.
+    pub fn line(self) -> &'static str
+        ensures { result.now ≡ fault_line self }
+    {
+        match self {
+            FileFault::Missing => " fault 0 line 0\n",
+            FileFault::NotYet => " fault 99 line 0\n",
+        }
+    }
+}
+
+impl RunFault {
+    /// The status of a run that isn't done for this.
+    pub fn status(&self) -> Status
+        ensures { result ≡ status_of self.now }
+    {
+        match self {
+            RunFault::BadFile(_, _) => Status::BadFile,
+            RunFault::Reading => Status::ReadFault,
+            RunFault::Writing => Status::WriteFault,
+            RunFault::Memory => Status::Memory,
         }
     }
 }

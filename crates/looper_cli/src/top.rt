@@ -4,43 +4,43 @@ ghost use Rattle.std.specs.Prelude.{◌≡◌, ◌⊎◌, ◌↔◌, ℕ, List, 
 ghost use Rattle.std.specs.Io.KnownBytes.{Appends};
 ghost use Rattle.std.specs.String.{string_bytes};
 ghost use Rattle.sl_base.specs.Counting.{Rose};
-ghost use Rattle.sl_ports.specs.Texts.{Tells, AppendsPrefix};
-ghost use Rattle.looper_cli.specs.Console.{words_text, read_fault_text};
+ghost use Rattle.sl_ports.specs.Effects.{TellsTo};
+ghost use Rattle.sl_ports.specs.Texts.{AppendsPrefix};
 ghost use Rattle.looper_cli.specs.Named.{names_of_words};
-ghost use Rattle.looper_cli.specs.Endings.{Around, Ends, Renders, NamesBad, IsFirstBad, FailsToWrite};
-ghost use Rattle.looper_cli.specs.Statuses.{IsStatusNumber};
+ghost use Rattle.looper_cli.specs.Endings.{Ends, Leaves, StaysWhole, Renders, NamesBad, IsFirstBad, FailsToWrite};
+ghost use Rattle.looper_cli.specs.Statuses.{IsStatusNumber, status_line};
 ghost use Rattle.looper_cli.specs.Words.{names_in};
 ghost use Rattle.looper_cli.specs.declared.status.FileFault.{FileFault};
+ghost use Rattle.looper_cli.specs.declared.status.Status.TheVariants.{Words as Other, ReadFault, WriteFault};
 
-use crate::console::tell;
+use crate::console::{tell, tell_done, tell_fault};
 use crate::render::render;
-use crate::status::Status;
+use crate::status::{RunFault, Status};
 use crate::words::{Words, words_of};
 use sl_ports::{Keeper, Sink};
 use std::alloc::Global;
 
-/// Does what the words ask for.
-fn run_words<P: Keeper, C: Sink>(
+/// Does what the words ask for, and gives the text that tells of it.
+fn run<P: Keeper>(alloc: Global, keeper: &mut P, words: &Words) -> Result<String, RunFault>
+    ensures { Leaves P.Keeper (names_of_words words.now) keeper.old keeper.new result }
+{
+    match words {
+        Words::Render(files) => render(alloc, keeper, files),
+    }
+}
+
+/// Does what the words ask for, and tells the console how it ended.
+fn run_and_tell<P: Keeper, C: Sink>(
     alloc: Global,
     words: &Words,
     keeper: &mut P,
     console: &mut C,
 ) -> Status
-    ensures { Ends (names_of_words words.now) (record {
-      reads_before = P.read_faults keeper.old;
-      reads = P.read_faults keeper.new;
-      writes_before = P.write_faults keeper.old;
-      writes = P.write_faults keeper.new;
-      files_before = P.files keeper.old;
-      files = P.files keeper.new;
-      faults_before = C.faults console.old;
-      faults = C.faults console.new;
-      text_before = C.held console.old;
-      text = C.held console.new;
-    }) result }
+    ensures { Ends P.Keeper C.Sink (names_of_words words.now) keeper.old keeper.new console.old console.new result }
 {
-    match words {
-        Words::Render(files) => render(alloc, files, keeper, console),
+    match run(alloc, keeper, words) {
+        Ok(text) => tell_done(console, text.as_str()),
+        Err(fault) => tell_fault(console, &fault),
     }
 }
 
@@ -59,50 +59,41 @@ pub fn plain_run<P: Keeper, C: Sink>(
 
     // 2 comes exactly where the words aren't in the grammar.
     ensures words { (result ≡ 2) ↔ (names_in (map string_bytes words.now) ≡ None) }
-    ensures words_text { let Told = Tells (C.faults console.old) (C.faults console.new)
-        (C.held console.old) (C.held console.new)
-        in result ≡ 2 → Told words_text }
+    ensures words_text { result ≡ 2 → TellsTo C.Sink console.old console.new (status_line Other) }
 
     // At 0, OUT is the WAV text of the run over what IN and JOURNAL held, and no count rose.
-    ensures done { let Told = Appends (C.held console.old) (C.held console.new)
-        in result ≡ 0 → IfSome (names_in (map string_bytes words.now)) (λ names.
-        Renders names (P.files keeper.old) (P.files keeper.new) Told) }
+    ensures done { result ≡ 0 → IfSome (names_in (map string_bytes words.now)) (λ names.
+        Renders names (P.files keeper.old) (P.files keeper.new) (Appends (C.held console.old) (C.held console.new))) }
     ensures counts { result ≡ 0 →
-        (P.read_faults keeper.new ≡ P.read_faults keeper.old)
-        × (P.write_faults keeper.new ≡ P.write_faults keeper.old)
-        × (C.faults console.new ≡ C.faults console.old) }
+        StaysWhole P.Keeper keeper.old keeper.new × (C.faults console.new ≡ C.faults console.old) }
 
     // 3 comes exactly where IN, or else JOURNAL, is missing or in another form, unless 4 or 8 does.
-    ensures bad_file { let Told = Tells (C.faults console.old) (C.faults console.new)
-        (C.held console.old) (C.held console.new)
-        in result ≡ 3 → IfSome (names_in (map string_bytes words.now)) (λ names.
-        NamesBad names (P.files keeper.old) Told) }
+    ensures bad_file { result ≡ 3 → IfSome (names_in (map string_bytes words.now)) (λ names.
+        NamesBad names (P.files keeper.old) (TellsTo C.Sink console.old console.new)) }
     ensures bad_file_always { IfSome (names_in (map string_bytes words.now)) (λ names.
         IfSome (P.files keeper.old) (λ files.
         (name : List ℕ) (fault : FileFault) → IsFirstBad names (Some files) name fault →
         (result ≡ 3) ⊎ (result ≡ 4) ⊎ (result ≡ 8))) }
 
     // 4 comes only where the count of readings rose, 5 only where the count of writes or the console's did.
-    ensures read_fault { let Told = Tells (C.faults console.old) (C.faults console.new)
-        (C.held console.old) (C.held console.new)
-        in result ≡ 4 → Rose (P.read_faults keeper.old) (P.read_faults keeper.new) × Told read_fault_text }
-    ensures write_fault { let Told = Tells (C.faults console.old) (C.faults console.new)
-        (C.held console.old) (C.held console.new)
-        in let ToldInPart = AppendsPrefix (C.held console.old) (C.held console.new)
-        in result ≡ 5 → IfSome (names_in (map string_bytes words.now)) (λ names.
-        FailsToWrite names (P.files keeper.old) (P.files keeper.new)
-        (P.write_faults keeper.old) (P.write_faults keeper.new) Told
+    ensures read_fault { result ≡ 4 → Rose (P.read_faults keeper.old) (P.read_faults keeper.new)
+        × TellsTo C.Sink console.old console.new (status_line ReadFault) }
+    ensures write_fault { result ≡ 5 → IfSome (names_in (map string_bytes words.now)) (λ names.
+        (FailsToWrite P.Keeper names keeper.old keeper.new
+        × TellsTo C.Sink console.old console.new (status_line WriteFault))
         ⊎ (Rose (C.faults console.old) (C.faults console.new)
-        × Renders names (P.files keeper.old) (P.files keeper.new) ToldInPart)) }
+        × Renders names (P.files keeper.old) (P.files keeper.new)
+        (AppendsPrefix (C.held console.old) (C.held console.new)))) }
 
-    // Files change at 0 and 5 alone.
+    // Files change at 0 and 5 alone, and 8 tells nothing.
     ensures unchanged { (result ≡ 2) ⊎ (result ≡ 3) ⊎ (result ≡ 4) ⊎ (result ≡ 8) →
         P.files keeper.new ≡ P.files keeper.old }
+    ensures memory { result ≡ 8 → console.new ≡ console.old }
 {
     match words_of(words) {
-        Ok(words) => run_words(alloc, &words, keeper, console).number(),
+        Ok(words) => run_and_tell(alloc, &words, keeper, console).number(),
         Err(_) => {
-            tell(console, b"status 2\n");
+            tell(console, Status::Words.line());
             Status::Words.number()
         }
     }

@@ -172,6 +172,20 @@ fn one_failing_call_gives_the_run_its_status(rt: HostRuntime) -> Result<(), Fail
             ..smallest()
         },
         Run {
+            title: "IN is bad, and reading JOURNAL would fail",
+            input: b"RIFF",
+            failing_reads: &[2],
+            status: 3,
+            console: b"file in.wav fault 99 line 0\nstatus 3\n",
+            out: None,
+            ..smallest()
+        },
+        Run {
+            title: "a third reading would fail",
+            failing_reads: &[3],
+            ..smallest()
+        },
+        Run {
             title: "writing OUT fails",
             failing_writes: &[1],
             status: 5,

@@ -16,8 +16,8 @@ returns-in_err-rest-clause-only c none frame rest hit =
     let parts = parts_of_hit c.args.lines.now c.in_ok-front.front.now c.in_ok-front.rest.now c.in_ok-front.ensures.found frame c.args.seq rest hit
     in c.in_err-rest.ensures.only refl rest (parts.1 ∙ ap (λ xs. xs ++ rest) (sym c.tail.ensures))
 
-pub returns-then-frame-gt-GREATEST_FRAME-clause-only : goal.returns-then-frame-gt-GREATEST_FRAME-clause-only
-returns-then-frame-gt-GREATEST_FRAME-clause-only c none frame rest hit =
+pub returns-then-frame-gt-MAX_SESSION_FRAMES-clause-only : goal.returns-then-frame-gt-MAX_SESSION_FRAMES-clause-only
+returns-then-frame-gt-MAX_SESSION_FRAMES-clause-only c none frame rest hit =
     let parts = parts_of_hit c.args.lines.now c.in_ok-front.front.now c.in_ok-front.rest.now c.in_ok-front.ensures.found frame c.args.seq rest hit
     in let same : c.in_ok-frame.frame ≡ frame = same_number c.in_ok-front.front.now c.in_ok-frame.frame frame c.in_ok-frame.ensures.found parts.0
     in let within = hit.within

@@ -9,9 +9,7 @@ returns c =
     let before = c.args.samples.now
     in let order : 2 * c.args.done ≤ 2 * c.args.until = omega (arith, c.requires.order)
     in let inside : 2 * c.args.until - 2 * c.args.done ≤ length (drop (2 * c.args.done) before) = omega (arith, length-drop (2 * c.args.done) before, c.requires.within)
-    in let size = c.run_period.auto.samples ∙ length-take-le (2 * c.args.until - 2 * c.args.done) (drop (2 * c.args.done) before) inside
-    in record {
-      ok = on_ok_weaker c.run_period.result
-          (slice_runs c.args.single.now c.run_period.new.single before _ c.run_period.new.samples c.args.done c.args.until c.requires.order c.requires.within size refl)
-          c.run_period.ensures.ok;
-    }
+    in let size = c.run.auto.samples ∙ length-take-le (2 * c.args.until - 2 * c.args.done) (drop (2 * c.args.done) before) inside
+    in on_ok_weaker c.run.result
+    (slice_runs c.args.single.now c.run.new.single before _ c.run.new.samples c.args.done c.args.until c.requires.order c.requires.within size refl)
+    c.run.ensures
