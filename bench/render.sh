@@ -1,8 +1,8 @@
 #!/bin/sh
 # Measures `looper render` on 16,777,216 mono frames with record at 0 and at half the length, and `sox in.wav out.wav` on
-# the same file in the same run where sox is there.
+# the same file in the same run where sox is there. With HITS 1 the second hit is left out, so that all frames are recorded.
 #
-#   bench/render.sh PROGRAM [FRAMES [RUNS]]
+#   bench/render.sh PROGRAM [FRAMES [RUNS [HITS]]]
 #
 # Prints wall and processor seconds and the greatest memory of each run, and the least and the median of each with the ratio.
 # It needs python3 and GNU time.
@@ -10,12 +10,13 @@ set -eu
 program=$(realpath "$1")
 frames=${2:-16777216}
 runs=${3:-5}
+hits=${4:-2}
 folder=$(mktemp -d)
 trap 'rm -rf "$folder"' EXIT
 cd "$folder"
-python3 - "$frames" <<'PY'
+python3 - "$frames" "$hits" <<'PY'
 import struct, sys
-frames = int(sys.argv[1])
+frames, hits = int(sys.argv[1]), int(sys.argv[2])
 block = b''.join(struct.pack('<h', (place * 7919) % 20001 - 10000) for place in range(65536))
 with open('in.wav', 'wb') as file:
     file.write(struct.pack('<4sI4s4sIHHIIHH4sI', b'RIFF', 36 + 2 * frames, b'WAVE', b'fmt ', 16, 1, 1, 48000, 96000, 2, 16,
@@ -25,7 +26,10 @@ with open('in.wav', 'wb') as file:
         file.write(block[:left])
         left -= len(block)
 with open('journal.txt', 'w') as file:
-    file.write('looper journal 1\n0 0 0 hit 0 record\n%d 0 1 hit 0 record\nend\n' % (frames // 2))
+    file.write('looper journal 1\n0 0 0 hit 0 record\n')
+    if hits > 1:
+        file.write('%d 0 1 hit 0 record\n' % (frames // 2))
+    file.write('end\n')
 PY
 measure() {
     name=$1

@@ -21,7 +21,7 @@ try() {
     fi
 }
 
-try 0 'looper 1.0.0' --version
+try 0 'looper 0.1.0' --version
 try 0 'looper: records a phrase into a loop and lets it repeat' --help
 try 2 'status 2' --version --help
 try 2 'status 2'
