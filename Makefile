@@ -24,6 +24,6 @@ test:
 	.ci/run
 
 install: all
-	install -d $(DESTDIR)$(PREFIX)/bin $(DESTDIR)$(PREFIX)/share/man/man1
-	install -m 755 $(PROGRAM) $(DESTDIR)$(PREFIX)/bin/looper
-	install -m 644 docs/looper.1 $(DESTDIR)$(PREFIX)/share/man/man1/looper.1
+	install -d "$(DESTDIR)$(PREFIX)/bin" "$(DESTDIR)$(PREFIX)/share/man/man1"
+	install -m 755 $(PROGRAM) "$(DESTDIR)$(PREFIX)/bin/looper"
+	install -m 644 docs/looper.1 "$(DESTDIR)$(PREFIX)/share/man/man1/looper.1"
