@@ -65,16 +65,16 @@ not_due : (frame : ℕ) (e : Entry) (es : List Entry) → All (λ e. frame < e.f
 not_due frame e es after = let first = All-head (λ e. frame < e.frame) e es after in lt-leb e.frame frame first
 
 -- entries of frames to come aren't due, and all of them are later
-due_none : (frame : ℕ) (es : List Entry) → All (λ e. frame < e.frame) es → due frame es ≡ []
+pub due_none : (frame : ℕ) (es : List Entry) → All (λ e. frame < e.frame) es → due frame es ≡ []
 due_none frame [] after = refl
 due_none frame (e ∷ es) after = rw (not_due frame e es after) refl
 
-later_all : (frame : ℕ) (es : List Entry) → All (λ e. frame < e.frame) es → later frame es ≡ es
+pub later_all : (frame : ℕ) (es : List Entry) → All (λ e. frame < e.frame) es → later frame es ≡ es
 later_all frame [] after = refl
 later_all frame (e ∷ es) after = rw (not_due frame e es after) refl
 
 -- entries of frames to come, behind others, change nothing of what is due
-due-append_none : (frame : ℕ) (es more : List Entry) → All (λ e. frame < e.frame) more →
+pub due-append_none : (frame : ℕ) (es more : List Entry) → All (λ e. frame < e.frame) more →
     due frame (es ++ more) ≡ due frame es
 due-append_none frame [] more after = due_none frame more after
 due-append_none frame (e ∷ es) more after =
@@ -86,7 +86,7 @@ if-append true us vs more = refl
 if-append false us vs more = refl
 
 -- and they are later, behind those of the others that are
-later-append : (frame : ℕ) (es more : List Entry) → All (λ e. frame < e.frame) more →
+pub later-append : (frame : ℕ) (es more : List Entry) → All (λ e. frame < e.frame) more →
     later frame (es ++ more) ≡ later frame es ++ more
 later-append frame [] more after = later_all frame more after
 later-append frame (e ∷ es) more after =
@@ -132,14 +132,14 @@ entered-append frame (e ∷ es) next l =
     ∙ simp append_assoc
 
 -- entries up to a frame are due at it
-due-append_all : (frame : ℕ) (first next : List Entry) → All (λ e. e.frame ≤ frame) first →
+pub due-append_all : (frame : ℕ) (first next : List Entry) → All (λ e. e.frame ≤ frame) first →
     due frame (first ++ next) ≡ first ++ due frame next
 due-append_all frame [] next up_to = refl
 due-append_all frame (e ∷ es) next up_to =
     let here = le-leb e.frame frame (All-head (λ e. e.frame ≤ frame) e es up_to) in
     rw here (ap (λ l. e ∷ l) (due-append_all frame es next (All-tail (λ e. e.frame ≤ frame) e es up_to)))
 
-later-append_all : (frame : ℕ) (first next : List Entry) → All (λ e. e.frame ≤ frame) first →
+pub later-append_all : (frame : ℕ) (first next : List Entry) → All (λ e. e.frame ≤ frame) first →
     later frame (first ++ next) ≡ later frame next
 later-append_all frame [] next up_to = refl
 later-append_all frame (e ∷ es) next up_to =

@@ -1,0 +1,4 @@
+pub mod UnansweredLemmas
+pub mod StepLemmas
+pub mod ClearLemmas
+pub mod ReachedLemmas
