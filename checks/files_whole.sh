@@ -120,6 +120,19 @@ else
     echo "a folder that can't be written: passed over as root"
 fi
 
+# A disk that doesn't take the new file: the system's call that puts it there fails. This needs a C compiler.
+if command -v cc > /dev/null; then
+    printf '#include <errno.h>\nint fsync(int file) { (void)file; errno = EIO; return -1; }\n' > "$folder/fsync.c"
+    cc -shared -fPIC -o "$folder/fsync.so" "$folder/fsync.c" || exit 1
+    begin
+    (LD_PRELOAD=$folder/fsync.so render out.wav)
+    status=$?
+    [ $status -eq 5 ] && holds out.wav old.wav && has 3
+    judge "a file that isn't put on the disk"
+else
+    echo "a file that isn't put on the disk: passed over without a C compiler"
+fi
+
 # A name that no file can take.
 begin
 mkdir "$folder/run/folder"

@@ -1,6 +1,7 @@
 #!/bin/sh
 # words_of_main.sh PROGRAM: `--version` and `--help` as the only word print one line and the page of usage, with status 0. With
-# another word behind them they are words outside the grammar, status 2.
+# another word behind them they are words outside the grammar, status 2. A word that isn't UTF-8 is outside it too, and the path
+# of the program may be any bytes.
 # The last line is `N passed, N failed`. The status is 0 where none failed.
 program=$1
 passed=0
@@ -25,5 +26,13 @@ try 0 'looper 0.1.0' --version
 try 0 'looper: records a phrase into a loop and lets it repeat' --help
 try 2 'status 2' --version --help
 try 2 'status 2'
+try 2 'status 2' "$(printf '\377')"
+
+folder=$(mktemp -d) || exit 1
+trap 'rm -rf "$folder"' EXIT
+other=$folder/$(printf 'looper\377')
+cp "$program" "$other" || exit 1
+program=$other
+try 0 'looper 0.1.0' --version
 echo "$passed passed, $failed failed"
 [ $failed -eq 0 ]
