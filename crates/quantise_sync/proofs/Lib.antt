@@ -1,3 +1,4 @@
 pub mod MultipleLemmas
 pub mod FaceLemmas
 pub mod BoundaryLemmas
+pub mod PlacedLemmas

@@ -5,15 +5,17 @@
 //!   every write and extension fits and no layer closes.
 //! - No call takes memory or can fail.
 //!
-//! Begin with `setup`, then `moment` and `next`. The rules are "Boundaries" in docs/rules.md.
+//! Begin with `setup`, then `moment` and `next`; `laws` has what holds of the definitions. The rules are "Boundaries" in docs/rules.md.
 #![tactic(auto)]
 
+mod laws;
 mod moment;
 mod next;
 mod setup;
 #[cfg(test)]
 mod tests;
 
+pub use laws::faces_of_loops_are_placed;
 pub use moment::boundary;
 pub use next::next_boundary;
 pub use setup::SyncSetup;
