@@ -1,2 +1,8 @@
 pub mod WavText
 pub mod Mono16
+pub mod Faults
+pub mod Samples
+pub mod Reading
+pub mod Files
+pub mod Walking
+pub mod Forms

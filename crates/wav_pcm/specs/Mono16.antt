@@ -1,10 +1,12 @@
 -- A file that is read has one channel of 16 bits, at most 16777216 frames and a rate from 1 to 768000, and is spelled
 -- as the WAV text is, to the last byte.
 -- A sample of 16 bits is 256 times as much in 24 bits, and stands on both sides of its frame.
+-- "WAV" in docs/formats.md.
 use Rattle.std.specs.Prelude.{◌≡◌, ◌≢◌, ℕ, ◌+◌, ◌≤◌, ◌==◌, if◌then◌else◌, ℤ, List, [], ◌∷◌, length, map, take}
 use Rattle.std.specs.List.{AllByRecursion}
 use Rattle.std.specs.Int.{w16, cast_signed}
 use Rattle.byteorder.specs.Endian.{little_number}
+use Rattle.sl_base.specs.Limits.{max_list_frames, max_rate}
 use Rattle.sl_base.specs.Arithmetic.{narrowed, widened}
 use Rattle.sl_base.specs.Sounds.{Sound, both, IsFrame}
 use Rattle.wav_pcm.specs.WavText.{samples_size, wav_header, wav_text}
@@ -21,9 +23,9 @@ kept channels bits frame =
 
 -- as many frames and such a rate as are read
 pub record IsReadable (frames : List Sound) (rate : ℕ) : Type 0 where
-  pub frames_within : length frames ≤ 16777216
+  pub frames_within : length frames ≤ max_list_frames
   pub rate_from : 1 ≤ rate
-  pub rate_within : rate ≤ 768000
+  pub rate_within : rate ≤ max_rate
 
 -- the bytes are a file that is read, of these frames at this rate
 pub record IsMono16 (bytes : List ℕ) (frames : List Sound) (rate : ℕ) : Type 0 where
@@ -50,6 +52,6 @@ sounds (low ∷ high ∷ rest) = both (widened (sample_of low high)) ∷ sounds 
 pub record HasHeader (bytes : List ℕ) (count rate : ℕ) : Type 0 where
   pub long : length bytes ≡ 44 + samples_size count 1 16
   pub header : take 44 bytes ≡ wav_header (samples_size count 1 16) 1 16 rate
-  pub count_within : count ≤ 16777216
+  pub count_within : count ≤ max_list_frames
   pub rate_from : 1 ≤ rate
-  pub rate_within : rate ≤ 768000
+  pub rate_within : rate ≤ max_rate

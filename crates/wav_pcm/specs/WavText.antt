@@ -5,6 +5,7 @@
 -- zero byte where that size is odd.
 -- A number's lowest byte stands first. A sample below 0 is in two's complement.
 -- In 16 bits a sample is divided by 256, rounding down. One channel has the left sides.
+-- "WAV" in docs/formats.md.
 use Rattle.std.specs.Prelude.{◌≡◌, ◌⊎◌, ℕ, suc, ◌+◌, ◌-◌, ◌*◌, ◌/◌, ◌%◌, ◌^◌, ◌==◌, if◌then◌else◌, ℤ, pos, negsuc, List, ◌++◌, length, replicate, codes}
 use Rattle.std.specs.List.{flat_map}
 use Rattle.byteorder.specs.Endian.{little_bytes}

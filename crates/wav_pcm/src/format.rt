@@ -1,6 +1,7 @@
 //! The parts of the WAV text that stand before the samples.
 
 ghost use Rattle.std.specs.Prelude.{◌≡◌, ◌⊎◌, ◌*◌, ◌^◌, ◌<◌, ◌≤◌, length};
+ghost use Rattle.sl_base.specs.Limits.{max_rate};
 ghost use Rattle.wav_pcm.specs.WavText.{IsFormat, frame_size, riff_header, format_chunk, data_header, wav_header};
 
 use byteorder::{ByteOrder, LittleEndian};
@@ -34,7 +35,7 @@ fn data_header(size: u32) -> [u8; 8]
 /// The format chunk.
 fn format_chunk(channels: u8, bits: u8, rate: u32) -> [u8; 24]
     requires format { IsFormat channels bits }
-    requires rate_within { rate ≤ 768000 }
+    requires rate_within { rate ≤ max_rate }
     ensures { result ≡ format_chunk channels bits rate }
 {
     let size = channels as u32 * (bits as u32 / 8);
@@ -51,7 +52,7 @@ fn format_chunk(channels: u8, bits: u8, rate: u32) -> [u8; 24]
 pub fn write_header(out: &mut [u8], size: u32, channels: u8, bits: u8, rate: u32)
     requires format { IsFormat channels bits }
     requires size_within { size < 2 ^ 31 }
-    requires rate_within { rate ≤ 768000 }
+    requires rate_within { rate ≤ max_rate }
     requires room { length out.old ≡ 44 }
     ensures { out.new ≡ wav_header size channels bits rate }
 {

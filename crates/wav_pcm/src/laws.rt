@@ -1,10 +1,14 @@
 //! What holds of the definitions.
 
-ghost use Rattle.std.specs.Prelude.{◌≡◌, ℕ, List, length, map};
+ghost use Rattle.std.specs.Prelude.{◌≡◌, ℕ, ◌≤◌, List, length, map, Err};
 ghost use Rattle.std.specs.List.{AllByRecursion};
+ghost use Rattle.sl_base.specs.Limits.{max_file_frames, max_rate};
 ghost use Rattle.sl_base.specs.Sounds.{Sound, IsFrame};
 ghost use Rattle.wav_pcm.specs.Mono16.{IsMono16, IsReadable, kept};
+ghost use Rattle.wav_pcm.specs.declared.fault.WavFault.TheVariants.{Unsupported};
 ghost use Rattle.wav_pcm.specs.WavText.{IsFormat, text_size, wav_text};
+ghost use Rattle.wav_pcm.specs.Reading.{Spelling, form_of};
+ghost use Rattle.wav_pcm.specs.Files.{IsWav};
 
 /// A text has 44 bytes, the bytes of its frames, and a pad where these are odd.
 pub fn size_of_text()
@@ -19,4 +23,24 @@ pub fn mono16_comes_back()
 /// A file that is read has one reading.
 pub fn mono16_has_one_reading()
     ensures { (bytes : List ℕ) (frames others : List Sound) (rate other : ℕ) → IsMono16 bytes frames rate → IsMono16 bytes others other → (frames ≡ others) × (rate ≡ other) }
+{}
+
+/// What is written is read again, as far as its form keeps it.
+pub fn wav_comes_back()
+    ensures { (frames : List Sound) (channels bits rate : ℕ) → IsFormat channels bits → AllByRecursion IsFrame frames
+        → length frames ≤ max_file_frames → 1 ≤ rate → rate ≤ max_rate
+        → IsWav (wav_text frames channels bits rate) (record { rate = rate; channels = channels; bits = bits })
+        (map (kept channels bits) frames) }
+{}
+
+/// What is written at rate 0 isn't supported.
+pub fn rate_0_is_not_supported()
+    ensures { (frames : List Sound) (channels bits : ℕ) → IsFormat channels bits
+        → form_of (wav_text frames channels bits 0) ≡ Err Unsupported }
+{}
+
+/// A file has one spelling and one list of frames.
+pub fn wav_has_one_reading()
+    ensures { (bytes : List ℕ) (spelling other : Spelling) (frames others : List Sound) → IsWav bytes spelling frames
+        → IsWav bytes other others → (spelling ≡ other) × (frames ≡ others) }
 {}

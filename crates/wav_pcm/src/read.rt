@@ -1,12 +1,13 @@
 //! Reading one channel of 16 bits.
 
 ghost use Rattle.std.specs.Prelude.{◌≡◌, ℕ, ◌-◌, ◌*◌, ◌/◌, ◌≤◌, ◌<◌, ◌^◌, ◌↔◌, length, drop, IsTrue, IfOk, IfSome, IfNone};
+ghost use Rattle.sl_base.specs.Limits.{max_rate};
 ghost use Rattle.wav_pcm.specs.Mono16.{sounds, HasHeader, IsMono16, IsNotMono16};
 ghost use Rattle.wav_pcm.specs.WavText.{wav_header};
 
 use crate::format::write_header;
 use byteorder::{ByteOrder, LittleEndian};
-use sl_base::{Frame, Frames, Memory, widen};
+use sl_base::{Frame, Frames, MAX_LIST_FRAMES, MAX_RATE, Memory, widen};
 use std::alloc::Global;
 
 /// A WAV file: its form and its frames.
@@ -60,7 +61,7 @@ pub fn read_mono16_samples(bytes: &[u8], frames: &mut [Frame])
 /// Whether these are the 44 bytes before samples of that size at this rate.
 fn is_header(bytes: &[u8], size: u32, rate: u32) -> bool
     requires size_within { size < 2 ^ 31 }
-    requires rate_within { rate ≤ 768000 }
+    requires rate_within { rate ≤ max_rate }
     ensures { IsTrue result ↔ (bytes.now ≡ wav_header size 1 16 rate) }
 {
     let mut header = [0u8; 44];
@@ -78,11 +79,11 @@ fn rate_of(bytes: &[u8]) -> Option<u32>
     }
     let (header, samples) = bytes.split_at(44);
     let size = samples.len();
-    if size > 33554432 || size % 2 == 1 {
+    if size > 2 * MAX_LIST_FRAMES as usize || size % 2 == 1 {
         return None;
     }
     let rate = LittleEndian::read_u32(&header[24..]);
-    if rate < 1 || rate > 768000 {
+    if rate < 1 || rate > MAX_RATE {
         return None;
     }
     if is_header(header, size as u32, rate) {

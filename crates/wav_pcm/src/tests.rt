@@ -71,3 +71,36 @@ fn eight_samples_are_read_and_written_in_place(rt: HostRuntime) -> Result<(), Fa
     assert_eq!(rt; bytes.as_slice(), &EIGHT_SAMPLES[44..]);
     Ok(())
 }
+
+#[test]
+fn both_files_are_read_by_their_forms(rt: HostRuntime) -> Result<(), Fail> {
+    let eight = read_wav(rt.alloc(), EIGHT_SAMPLES).ok().ok_or("not read")?;
+    assert_eq!(rt; (eight.rate, eight.channels, eight.bits), (48000, 1, 16));
+    let expected = frames_of(rt.alloc(), &[1, 2, 3, 4, 5, 6, 7, 8])?;
+    assert_eq!(rt; eight.frames.as_slice(), expected.as_slice());
+    let four = read_wav(rt.alloc(), FOUR_FRAMES).ok().ok_or("not read")?;
+    assert_eq!(rt; (four.rate, four.channels, four.bits), (48000, 2, 24));
+    let expected = frames_of(rt.alloc(), &[1, 2, 3, 4])?;
+    assert_eq!(rt; four.frames.as_slice(), expected.as_slice());
+    Ok(())
+}
+
+#[test]
+fn every_prefix_of_a_file_has_its_fault(rt: HostRuntime) {
+    for end in 0..EIGHT_SAMPLES.len() {
+        let fault = wav_form(EIGHT_SAMPLES.split_at(end).0);
+        let number = if end < 12 {
+            1
+        } else if end < 36 {
+            2
+        } else if end < 44 {
+            4
+        } else {
+            5
+        };
+        assert!(rt;
+            matches!(fault, Err(fault) if fault.number() == number),
+            "{end}"
+        );
+    }
+}

@@ -1,6 +1,7 @@
 //! The whole WAV text.
 
 ghost use Rattle.std.specs.Prelude.{◌≡◌, ◌≤◌, length, IfOk};
+ghost use Rattle.sl_base.specs.Limits.{max_file_frames, max_rate};
 ghost use Rattle.wav_pcm.specs.WavText.{IsFormat, text_size, wav_text};
 
 use crate::format::{frame_size, write_header};
@@ -11,8 +12,8 @@ use std::alloc::Global;
 /// Writes the whole text. `out` has room for exactly that.
 fn write_text(out: &mut [u8], frames: &[Frame], channels: u8, bits: u8, rate: u32)
     requires format { IsFormat channels bits }
-    requires frames_within { length frames.now ≤ 134217728 }
-    requires rate_within { rate ≤ 768000 }
+    requires frames_within { length frames.now ≤ max_file_frames }
+    requires rate_within { rate ≤ max_rate }
     requires room { length out.old ≡ text_size (length frames.now) channels bits }
     ensures { out.new ≡ wav_text frames.now channels bits rate }
 {
@@ -31,8 +32,8 @@ pub fn wav_text(
     rate: u32,
 ) -> Result<Vec<u8>, Memory>
     requires format { IsFormat channels bits }
-    requires frames_within { length frames.now ≤ 134217728 }
-    requires rate_within { rate ≤ 768000 }
+    requires frames_within { length frames.now ≤ max_file_frames }
+    requires rate_within { rate ≤ max_rate }
     ensures { IfOk result (λ text. text.items ≡ wav_text frames.now channels bits rate) }
 {
     let size = frames.len() * frame_size(channels, bits);
