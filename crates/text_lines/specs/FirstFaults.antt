@@ -4,8 +4,10 @@
 -- Only whole lines are judged. Where none is left and `end` hasn't come, or something follows `end`, the fault stands at
 -- the line behind the last whole one that was good.
 -- "Faults of texts" in docs/rules.md.
-use Rattle.std.specs.Prelude.{ℕ, ◌≡◌, ◌≢◌, ◌+◌, List, [], ◌∷◌, ◌++◌, length}
+use Rattle.std.specs.Prelude.{ℕ, ◌≡◌, ◌≢◌, ◌+◌, List, [], ◌∷◌, ◌++◌, length, ⊤}
 use Rattle.sl_commands.specs.declared.fault.TextKind.{TextKind}
+use Rattle.sl_commands.specs.declared.fault.ReadText.{ReadText}
+use Rattle.sl_commands.specs.declared.fault.ReadText.TheVariants.{Fault, Memory}
 use Rattle.sl_commands.specs.declared.fault.TextKind.TheVariants.{Header, Ending}
 use Rattle.text_lines.specs.Lines.{Lacks, end_word, text_then, text_of}
 
@@ -56,3 +58,8 @@ pub record IsSettled {A : Type 0} (form : TextForm A) : Type 0 where
 pub record IsReadUpTo {A : Type 0} (form : TextForm A) (bytes : List ℕ) (items : List A) (rest : List ℕ) : Type 0 where
   pub follow : MayAllFollow form [] items
   pub spelled : bytes ≡ text_then form.header form.spell items rest
+
+-- why a text of a form wasn't read: its first fault, or want of memory
+abbrev pub IsReason : {A : Type 0} → TextForm A → List ℕ → ReadText → Type 0
+IsReason form bytes (Fault fault) = FirstFault form bytes fault.line fault.kind
+IsReason form bytes Memory = ⊤

@@ -1,0 +1,10 @@
+pub mod TargetLemmas
+pub mod FormLemmas
+pub mod TableLemmas
+pub mod CommandLemmas
+pub mod EntryLemmas
+pub mod SoFarLemmas
+pub mod WrongLemmas
+pub mod JournalLemmas
+pub mod ReaderLemmas
+pub mod WriteLemmas

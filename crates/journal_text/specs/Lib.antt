@@ -1,0 +1,4 @@
+pub mod JournalLines
+pub mod Journals
+pub mod SoFars
+pub mod Readings
