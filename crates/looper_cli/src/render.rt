@@ -65,7 +65,8 @@ fn out_bytes(alloc: Global, input: Vec<u8>, hits: &Hits) -> Result<Vec<u8>, Memo
 /// All that a run writes, made before anything is written.
 fn make(alloc: Global, input: Vec<u8>, hits: &Hits) -> Result<Made, Memory>
     requires { IsInput input.items }
-    ensures { IfOk result (λ made. IsMadeOf input.items hits.now made.out.items (string_bytes made.text)) }
+    ensures { IfOk result (λ made.
+        IsMadeOf input.items hits.now made.out.items (string_bytes made.text)) }
 {
     let text = summary(alloc, frames_in(&input), hits.len())?;
     let out = out_bytes(alloc, input, hits)?;
@@ -79,7 +80,8 @@ fn write<P: Keeper>(
     files: &Render,
     made: Made,
 ) -> Result<String, RunFault>
-    requires { MadeFrom (names files.now) (P.files keeper.old) made.out.items (string_bytes made.text) }
+    requires { MadeFrom (names files.now)
+        (P.files keeper.old) made.out.items (string_bytes made.text) }
     ensures { Leaves P.Keeper (names files.now) keeper.old keeper.new result }
 {
     match keeper.write_file(alloc, &files.out, &made.out) {

@@ -36,7 +36,8 @@ fn run_and_tell<P: Keeper, C: Sink>(
     keeper: &mut P,
     console: &mut C,
 ) -> Status
-    ensures { Ends P.Keeper C.Sink (names_of_words words.now) keeper.old keeper.new console.old console.new result }
+    ensures { Ends P.Keeper C.Sink (names_of_words words.now)
+        keeper.old keeper.new console.old console.new result }
 {
     match run(alloc, keeper, words) {
         Ok(text) => tell_done(console, text.as_str()),
@@ -63,7 +64,8 @@ pub fn plain_run<P: Keeper, C: Sink>(
 
     // At 0, OUT is the WAV text of the run over what IN and JOURNAL held, and no count rose.
     ensures done { result ≡ 0 → IfSome (names_in (map string_bytes words.now)) (λ names.
-        Renders names (P.files keeper.old) (P.files keeper.new) (Appends (C.held console.old) (C.held console.new))) }
+        Renders names (P.files keeper.old) (P.files keeper.new)
+        (Appends (C.held console.old) (C.held console.new))) }
     ensures counts { result ≡ 0 →
         StaysWhole P.Keeper keeper.old keeper.new × (C.faults console.new ≡ C.faults console.old) }
 
