@@ -2,3 +2,5 @@ pub mod UnansweredLemmas
 pub mod StepLemmas
 pub mod ClearLemmas
 pub mod ReachedLemmas
+pub mod IdleLemmas
+pub mod MoreLoopsLemmas

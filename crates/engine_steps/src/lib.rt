@@ -6,11 +6,13 @@
 //!   input so far, and the blocks that were sent, followed by those that are left, are the blocks of all its saves.
 //! - It may take every command of OSC and MIDI at any time, and a release once the blocks of the oldest unanswered save were
 //!   all sent. Nothing here knows of periods: frames may be cut in any way.
+//! - With more loops than its journal speaks of, it sounds the same.
 //!
 //! Begin with `specs/Engines`, then `specs/InStep`; `laws` has what holds. The rules are "The run" and "Saves" in docs/rules.md.
 #![tactic(auto)]
 
 mod laws;
+mod more_loops;
 
 pub use laws::{
     a_sent_block_keeps_an_engine_in_step, a_taken_entry_keeps_an_engine_in_step,
@@ -18,3 +20,4 @@ pub use laws::{
     an_engine_may_take_commands_and_what_is_due, frames_keep_an_engine_in_step, frames_may_be_cut,
     the_blocks_of_an_engine_may_follow, the_lists_of_waiting_saves_are_pinned,
 };
+pub use more_loops::more_loops_sound_the_same;
