@@ -1,5 +1,6 @@
 #!/bin/sh
-# Measures the readers of texts beside `wc FILE` in the same run, on a journal of 1,000,000 lines.
+# Measures the readers of texts beside `wc FILE` in the same run, on a journal of 1,000,000 lines and on
+# a WAV file of 100 MB, of 2 channels of 24 bits.
 #
 #   bench/readers.sh PROGRAM [RUNS]
 #
@@ -20,6 +21,16 @@ with open('journal.txt', 'w') as file:
                    'get -3 loop_len', 'down -1 record'][place % 4]
         file.write('%d %d %d %s\n' % (place * 48, place % 2, place // 2, command))
     file.write('end\n')
+import struct
+size = 6 * 16666666
+block = bytes((place * 7919 >> 3) % 251 for place in range(600000))
+with open('file.wav', 'wb') as file:
+    file.write(struct.pack('<4sI4s4sIHHIIHH4sI', b'RIFF', 36 + size, b'WAVE', b'fmt ', 16, 1, 2, 48000, 288000, 6, 24,
+                           b'data', size))
+    left = size
+    while left > 0:
+        file.write(block[:left])
+        left -= len(block)
 PY
 measure() {
     name=$1
@@ -33,6 +44,9 @@ measure() {
 measure journal "$program" journal 16 journal.txt
 cat told
 measure wc-of-journal wc journal.txt
+measure wav "$program" wav - file.wav
+cat told
+measure wc-of-wav wc file.wav
 python3 - <<'PY'
 import os
 rows = [line.split() for line in open('times')]
@@ -41,8 +55,8 @@ for name in dict.fromkeys(row[0] for row in rows):
     mine = [row for row in rows if row[0] == name]
     clock = sorted(float(row[1]) for row in mine)
     processor = sorted(float(row[2]) + float(row[3]) for row in mine)
-    memory = max(int(row[4]) for row in mine) / 1024
+    memory = max(int(row[4]) for row in mine) * 1024 / 1e6
     print('%-16s %20.2f %7.2f %20.2f %7.2f %12.1f' % (name, clock[0], clock[len(clock) // 2], processor[0],
                                                       processor[len(processor) // 2], memory))
-print('journal.txt %d bytes' % os.path.getsize('journal.txt'))
+print('journal.txt %d bytes, file.wav %d bytes' % (os.path.getsize('journal.txt'), os.path.getsize('file.wav')))
 PY

@@ -1,14 +1,17 @@
 //! Reads texts and tells what they say, or their first fault: one line of output for each line of input.
 //!
-//! A line is `journal LOOPS HEX`, with the bytes in hexadecimal digits. What was read is written again and compared. With
-//! the words `journal LOOPS FILE` the program reads that file instead of standard input, and writes nothing again.
+//! A line is `journal LOOPS HEX` or `wav - HEX`, with the bytes in hexadecimal digits. A journal that was read is written
+//! again and compared, and the frames of a WAV file are told. With the words `journal LOOPS FILE` or `wav - FILE` the
+//! program reads that file instead of standard input, and tells how many entries or frames it has.
 #![tactic(auto)]
 
 mod bytes;
 mod journal;
+mod wav;
 
 use crate::bytes::bytes_of;
 use crate::journal::tell_journal;
+use crate::wav::tell_wav;
 use std::alloc::Global;
 use std::io::{self, BufRead, BufReader, BufWriter, Write};
 use std::{env, fs};
@@ -24,6 +27,7 @@ fn tell<W: Write>(
 ) -> io::Result<()> {
     match form {
         "journal" => tell_journal(out, alloc, bytes, loops.parse().unwrap_or(1), again),
+        "wav" => tell_wav(out, alloc, bytes, again),
         _ => writeln!(out, "no such form"),
     }
 }
