@@ -1,0 +1,15 @@
+pub mod SeenLemmas
+pub mod KeptLemmas
+pub mod OpeningLemmas
+pub mod FreshLemmas
+pub mod AlikeLemmas
+pub mod WriteLemmas
+pub mod ClosingLemmas
+pub mod ReadLemmas
+pub mod ExtendingLemmas
+pub mod PinLemmas
+pub mod SizeLemmas
+pub mod SharedLemmas
+pub mod SpanLemmas
+pub mod LoadLemmas
+pub mod LawLemmas
