@@ -1,0 +1,13 @@
+use Rattle.std.proofs.Common.{◌≡◌, ◌-◌}
+use Rattle.sl_commands.specs.declared.How.TheVariants.{Backward}
+use Rattle.looper_rules.specs.Layers.{current_length}
+use Rattle.lazy_fill.specs.Runs.{Follows}
+use Rattle.layers_bench.specs.Phases.{IsWriting}
+use Rattle.layers_bench.proofs.steps.backward.Given as goal
+
+abbrev pub invariant-loop-i : goal.invariant-loop-i
+invariant-loop-i l = record {
+  writing : IsWriting l.layers l.pool;
+  length : current_length l.layers.stack.layers ≡ l.length;
+  follows : Follows l.layers.stack.run Backward (l.to - 1 - l.i);
+}
