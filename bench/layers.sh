@@ -13,8 +13,9 @@ import subprocess
 import sys
 program, runs, times = sys.argv[1], int(sys.argv[2]), sys.argv[3]
 LENGTHS = [4096, 65536, 1048576, 16777216]
-FEW = {4096: [0, 50], 65536: [0, 50, 499, 5000], 1048576: [0, 50, 499, 5000, 16382],
-       16777216: [0, 50, 99, 499, 999, 5000, 16382, 30000]}
+# Single frames written over the list: 100, 10,000 and 60,000 pieces, and 200, 1,000, 2,000 and 32,766 seams.
+FEW = {4096: [0, 50], 65536: [0, 50, 466, 5000], 1048576: [0, 50, 466, 5000, 30000],
+       16777216: [0, 50, 74, 474, 974, 5000, 16357, 30000]}
 CALLS = ['append', 'opening_of_the_first', 'opening', 'new', 'fresh', 'new_backward', 'begin', 'insert', 'undo_and_redo', 'pin',
          'search', 'read', 'read_backward', 'span']
 
@@ -27,7 +28,7 @@ def least(kind, frames, singles):
             if line:
                 name, number = line.split()
                 told[name] = min(told.get(name, 1 << 63), int(number))
-    return {name: number / 1000 for name, number in told.items()}
+    return {name: number if name == 'seams' else number / 1000 for name, number in told.items()}
 
 
 def row(words):
@@ -35,12 +36,12 @@ def row(words):
 
 
 def shown(told):
-    return ['%.1f' % told[call] if call in told else '-' for call in CALLS]
+    return [str(told.get('seams', '-'))] + ['%.1f' % told[call] if call in told else '-' for call in CALLS]
 
 
 new = least('new', 0, 0)['new']
 print('new, 32768 chunks and 16 loops: %.0f ns' % new)
-row(['frames', 'pieces'] + [call[:10] for call in CALLS])
+row(['frames', 'pieces', 'seams'] + [call[:10] for call in CALLS])
 layers, vector = {}, {}
 for frames in LENGTHS:
     for singles in FEW[frames]:
@@ -49,7 +50,7 @@ for frames in LENGTHS:
     vector[frames] = told = least('vector', frames, 0)
     row([frames, 'vector'] + shown(told))
 longest = LENGTHS[-1]
-opening, short = layers[longest, 499]['opening'], layers[65536, 499]['opening']
+opening, short = layers[longest, 474]['opening'], layers[65536, 466]['opening']
 one, many = layers[longest, 0]['span'], layers[longest, 5000]['span']
 goals = [
     ('new under 1 ms', new / 1e6, 1.0),

@@ -103,12 +103,12 @@ pub fn fresh_cells(
     best
 }
 
-/// A write of a new cell in a run, backward, each time `count` frames further on.
+/// A write of a new cell in a run, backward before a place, each time `count` frames further down.
 pub fn new_cells_backward(
     rt: &HostRuntime,
     layers: &mut Layers,
     pool: &mut Pool,
-    from: u32,
+    to: u32,
     count: u32,
     times: u32,
 ) -> u64
@@ -116,9 +116,8 @@ pub fn new_cells_backward(
     ensures { IsWriting layers.new pool.new }
 {
     let mut best = u64::MAX;
-    let mut place = from;
+    let mut place = to;
     for _ in 0..times {
-        place = place.saturating_add(count);
         let start = now(rt);
         let written = backward(layers, pool, place, count);
         let timed = since(rt, start);
@@ -126,6 +125,7 @@ pub fn new_cells_backward(
             return best;
         }
         best = least(best, timed, count as u64);
+        place = place.saturating_sub(count);
     }
     best
 }

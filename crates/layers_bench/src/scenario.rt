@@ -72,7 +72,7 @@ fn written(rt: &HostRuntime, layers: &mut Layers, pool: &mut Pool, size: Size)
     tell(
         rt,
         "new_backward",
-        new_cells_backward(rt, layers, pool, quarter, count, size.times),
+        new_cells_backward(rt, layers, pool, half - half / 4, count, size.times),
     );
     tell(
         rt,
