@@ -1,0 +1,6 @@
+pub mod StripLemmas
+pub mod LineLemmas
+pub mod WrongLemmas
+pub mod ReadingLemmas
+pub mod SessionLemmas
+pub mod WriteLemmas

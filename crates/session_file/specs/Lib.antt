@@ -1,0 +1,3 @@
+pub mod SessionLines
+pub mod Sessions
+pub mod Readings
