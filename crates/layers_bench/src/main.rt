@@ -7,7 +7,7 @@
 //! layers_bench vector FRAMES 0 TIMES
 //! ```
 //!
-//! `layers` records FRAMES frames, and in a second layer writes RUNS single frames over their second half, apart from one another.
+//! `layers` has its pool filled before, as it is when live audio begins. It records FRAMES frames, and in a second layer writes RUNS single frames over their second half, apart from one another.
 //! Each line names what was timed, with the least of TIMES in thousandths of a nanosecond: of a call, and of a frame where
 //! frames are written or read one by one.
 #![tactic(auto)]
@@ -24,12 +24,15 @@ use clock::{least, now, since, tell, told};
 use layer_memory::Layers;
 use loop_tape::Pool;
 use scenario::Size;
-use sl_base::{Frame, MAX_CHUNKS, MAX_LIST_FRAMES};
+use sl_base::{CHUNK_FRAMES, Frame, MAX_CHUNKS, MAX_LIST_FRAMES};
 use std::process::ExitCode;
 use std::{env, io};
 
 /// The frames of a span.
 const SPAN: usize = 1024;
+
+/// Chunks for what is written over the first layer.
+const SPARE: u32 = 64;
 
 /// A pool and the layers of 16 loops, made anew.
 fn made_anew(rt: &HostRuntime, times: u32) {
@@ -71,9 +74,11 @@ fn over_layers(rt: &HostRuntime, size: Size) {
     if out.len() > 65536 {
         return;
     }
-    let Ok(mut pool) = Pool::new(rt.alloc(), MAX_CHUNKS) else {
+    let chunks = (size.frames / CHUNK_FRAMES).min(MAX_CHUNKS - SPARE) + SPARE;
+    let Ok(mut pool) = Pool::new(rt.alloc(), chunks) else {
         return;
     };
+    pool.fill();
     let Ok(mut layers) = Layers::new(rt.alloc(), MAX_CHUNKS) else {
         return;
     };
