@@ -45,6 +45,12 @@ for row in journals:
 for row in [row for row in journals if 'entries' in row and len(row['hex']) < 2000][:10]:
     ask_prefixes('journal %d' % row['loops'], bytes.fromhex(row['hex']))
 
+sessions = vectors('sessions')
+for row in sessions:
+    ask('session - %s' % row['hex'], fault(row) if 'fault' in row else 'session')
+for row in [row for row in sessions if 'fault' not in row and len(row['hex']) < 1000][:10]:
+    ask_prefixes('session -', bytes.fromhex(row['hex']))
+
 for row in vectors('wavs'):
     ask('wav - %s' % row['hex'], wav(row))
 

@@ -1,16 +1,18 @@
 //! Reads texts and tells what they say, or their first fault: one line of output for each line of input.
 //!
-//! A line is `journal LOOPS HEX` or `wav - HEX`, with the bytes in hexadecimal digits. A journal that was read is written
-//! again and compared, and the frames of a WAV file are told. With the words `journal LOOPS FILE` or `wav - FILE` the
-//! program reads that file instead of standard input, and tells how many entries or frames it has.
+//! A line is `journal LOOPS HEX`, `session - HEX` or `wav - HEX`, with the bytes in hexadecimal digits. A journal and a
+//! session that were read are written again and compared, and the frames of a WAV file are told. With the words `journal LOOPS FILE`, `session - FILE`
+//! or `wav - FILE` the program reads that file instead of standard input, and tells how many entries or frames it has.
 #![tactic(auto)]
 
 mod bytes;
 mod journal;
+mod session;
 mod wav;
 
 use crate::bytes::bytes_of;
 use crate::journal::tell_journal;
+use crate::session::tell_session;
 use crate::wav::tell_wav;
 use std::alloc::Global;
 use std::io::{self, BufRead, BufReader, BufWriter, Write};
@@ -27,6 +29,7 @@ fn tell<W: Write>(
 ) -> io::Result<()> {
     match form {
         "journal" => tell_journal(out, alloc, bytes, loops.parse().unwrap_or(1), again),
+        "session" => tell_session(out, alloc, bytes),
         "wav" => tell_wav(out, alloc, bytes, again),
         _ => writeln!(out, "no such form"),
     }
