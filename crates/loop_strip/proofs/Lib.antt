@@ -1,0 +1,13 @@
+pub mod Whole
+pub mod MoveLemmas
+pub mod LoopLemmas
+pub mod DidLemmas
+pub mod OpeningLemmas
+pub mod AllowedLemmas
+pub mod ActLemmas
+pub mod LiftLemmas
+pub mod FrameLemmas
+pub mod PassLemmas
+pub mod QuietLemmas
+pub mod SavingLemmas
+pub mod StripLemmas

@@ -1,0 +1,9 @@
+pub mod Strips
+pub mod Parts
+pub mod Moving
+pub mod Undoing
+pub mod Openings
+pub mod Running
+pub mod Carrying
+pub mod Advances
+pub mod Quiet
