@@ -1,6 +1,6 @@
 #!/bin/sh
-# Measures the readers of texts beside `wc FILE` in the same run, on a journal of 1,000,000 lines and on
-# a WAV file of 100 MB, of 2 channels of 24 bits.
+# Measures the readers of texts beside `wc FILE` in the same run, on a journal of 1,000,000 lines, on a session of 16
+# loops and on a WAV file of 100 MB, of 2 channels of 24 bits.
 #
 #   bench/readers.sh PROGRAM [RUNS]
 #
@@ -20,6 +20,12 @@ with open('journal.txt', 'w') as file:
         command = ['hit %d %s' % (place % 16, verbs[place % 13]), 'set %d feedback %d' % (place % 16, place % 1001),
                    'get -3 loop_len', 'down -1 record'][place % 4]
         file.write('%d %d %d %s\n' % (place * 48, place % 2, place // 2, command))
+    file.write('end\n')
+with open('session.txt', 'w') as file:
+    file.write('looper session 1\nrate 48000\nloops 16\ndry 0\nsync_source -3\nselected_loop_num 1\nfade_step 20\n'
+               'long_press 24000\npulse 24000\n')
+    for place in range(16):
+        file.write('loop %d %d 48000 1000 1000 0 3 8388607\n' % (place, 48000 * (place + 1)))
     file.write('end\n')
 import struct
 size = 6 * 16666666
@@ -44,6 +50,9 @@ measure() {
 measure journal "$program" journal 16 journal.txt
 cat told
 measure wc-of-journal wc journal.txt
+measure session "$program" session - session.txt
+cat told
+measure wc-of-session wc session.txt
 measure wav "$program" wav - file.wav
 cat told
 measure wc-of-wav wc file.wav

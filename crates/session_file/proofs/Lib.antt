@@ -4,3 +4,5 @@ pub mod WrongLemmas
 pub mod ReadingLemmas
 pub mod SessionLemmas
 pub mod WriteLemmas
+pub mod PartLemmas
+pub mod LoadLemmas
