@@ -1,0 +1,10 @@
+pub mod TargetLemmas
+pub mod TableLemmas
+pub mod FormLemmas
+pub mod BindingLemmas
+pub mod OneLemmas
+pub mod WrongLemmas
+pub mod TextLemmas
+pub mod ReaderLemmas
+pub mod WriteLemmas
+pub mod QuotientLemmas
