@@ -70,6 +70,27 @@ def told_events(events):
     return ' '.join(['events'] + ['%d:%s' % (at, ':'.join(str(f) for f in event)) for at, event in events])
 
 
+def binding_line(line):
+    """The line of a binding: its channel is counted from 0, and in a text from 1."""
+    if line[0] == 'give':
+        return '%s %d %d %s' % (line[1], line[2] + 1, line[3], line[4])
+    return 'cv %d %d set %s' % (line[1] + 1, line[2], ' '.join(str(word) for word in line[3:]))
+
+
+def told_bindings(vector):
+    if 'fault' in vector:
+        return 'fault %d %d' % (vector['fault']['kind'], vector['fault']['line'])
+    if isinstance(vector['lines'], int):  # many lines are told by their number, and the bytes are their spelling
+        return 'text ' + vector['hex']
+    text = ''.join(line + '\n' for line in ['looper bindings 1'] + [binding_line(line) for line in vector['lines']] + ['end'])
+    return 'text ' + text.encode().hex()
+
+
+def told_commands(vector):
+    given = ['%d:%s %s' % (at, ':'.join(str(f) for f in event), command) for at, event, command in vector['commands'] if command]
+    return '; '.join(['commands'] + given)
+
+
 def lines(cases):
     """Each line for the program, with what it has to tell."""
     folder = os.path.join(cases, 'messages')
@@ -85,6 +106,10 @@ def lines(cases):
         yield ' '.join(['write', v['address']] + [arg(a) for a in v['args']]), v['hex'] if v['hex'] else 'none'
     for v in latest(read(os.path.join(folder, 'midi.jsonl')), lambda v: v['hex']):
         yield 'midi ' + v['hex'], told_events(v['events'])
+    for v in latest(read(os.path.join(folder, 'bindings.jsonl')), lambda v: (v['hex'], v['loops'])):
+        yield 'bindings %d %s' % (v['loops'], v['hex']), told_bindings(v)
+    for v in latest(read(os.path.join(folder, 'lookups.jsonl')), lambda v: (v['text'], v['loops'], v['hex'])):
+        yield 'looked %d %s %s' % (v['loops'], v['text'].encode().hex(), v['hex']), told_commands(v)
     yield from peer_lines(os.path.join(cases, 'peers'))
 
 

@@ -7,18 +7,22 @@
 //! write HEX ARG ..            the bytes of a message with this address; an ARG is i and a number, or s and HEX
 //! midi HEX                    the events of MIDI bytes, each with the place of its last byte
 //! stream HEX                  the same without the places
+//! bindings LOOPS HEX          the bindings of a text, as they are written, or its first fault
+//! looked LOOPS HEX HEX        the commands that MIDI bytes give by the bindings of a text
 //! ```
 //!
 //! HEX are bytes in hexadecimal digits, IP is an address as one number.
 #![tactic(auto)]
 
 mod asked;
+mod bound;
 mod hex;
 mod midi;
 mod packet;
 mod written;
 
 use crate::asked::{tell_asked, tell_url};
+use crate::bound::{tell_bindings, tell_looked};
 use crate::hex::bytes_of;
 use crate::midi::{tell_midi, tell_stream};
 use crate::packet::tell_packet;
@@ -47,6 +51,20 @@ fn tell_words<W: Write>(out: &mut W, alloc: Global, words: &[&str]) -> io::Resul
         ["write", hex, args @ ..] => tell_written(out, alloc, &bytes_of(alloc, hex)?, args),
         ["midi", hex] => tell_midi(out, &bytes_of(alloc, hex)?),
         ["stream", hex] => tell_stream(out, &bytes_of(alloc, hex)?),
+        ["bindings", loops, hex] => {
+            let loops = loops.parse().unwrap_or(0);
+            tell_bindings(out, alloc, loops, &bytes_of(alloc, hex)?)
+        }
+        ["looked", loops, text, hex] => {
+            let loops = loops.parse().unwrap_or(0);
+            tell_looked(
+                out,
+                alloc,
+                loops,
+                &bytes_of(alloc, text)?,
+                &bytes_of(alloc, hex)?,
+            )
+        }
         _ => writeln!(out, "no such line"),
     }
 }

@@ -3,7 +3,8 @@
 use midi_reader::{MidiEvent, MidiReader};
 use std::io::{self, Write};
 
-fn tell_event<W: Write>(out: &mut W, event: MidiEvent) -> io::Result<()> {
+/// Tells an event by its fields.
+pub fn tell_event<W: Write>(out: &mut W, event: MidiEvent) -> io::Result<()> {
     match event {
         MidiEvent::NoteOff(channel, note) => write!(out, "NoteOff:{channel}:{note}"),
         MidiEvent::NoteOn(channel, note, velocity) => write!(
