@@ -1,11 +1,11 @@
 #!/bin/sh
-# Measures how long one message from outside takes: a packet of one hit and one of 292 hits with what they ask for, and a
-# note of three MIDI bytes.
+# Measures how long one message from outside takes: a packet of one hit and one of 292 hits with what they ask for, a
+# note of three MIDI bytes, and the look-up of a note that the last of 1024 bindings has.
 #
 #   bench/messages.sh PROGRAM [COUNT [RUNS]]
 #
 # PROGRAM is crates/messages_bench/out/messages_bench, made by `rt run` in that crate's folder. Each kind of message is
-# read COUNT times, notes ten times as often. Prints the least and the median of the runs, in nanoseconds of the processor a message. It needs
+# read COUNT times, notes ten times as often, and looked up a tenth as often. Prints the least and the median of the runs, in nanoseconds of the processor a message. It needs
 # python3 and GNU time.
 set -eu
 program=$(realpath "$1")
@@ -19,6 +19,7 @@ while [ "$run" -lt "$runs" ]; do
     /usr/bin/time -f "hit $count %U %S" -a -o times "$program" hit "$count"
     /usr/bin/time -f "flood $((count / 292 * 292)) %U %S" -a -o times "$program" flood "$((count / 292))"
     /usr/bin/time -f "midi $((count * 10)) %U %S" -a -o times "$program" midi "$((count / 100))"
+    /usr/bin/time -f "bound $((count / 10)) %U %S" -a -o times "$program" bound "$((count / 10))"
     run=$((run + 1))
 done
 python3 - <<'PY'

@@ -1,14 +1,15 @@
 //! `messages_bench`: reads the same message from outside again and again, for bench/messages.sh to time. It is silent.
 //!
 //! ```text
-//! messages_bench hit|flood|midi COUNT
+//! messages_bench hit|flood|midi|bound COUNT
 //! ```
 //!
 //! `hit` reads a packet of one hit and what it asks for, `flood` one of 292 hits, `midi` feeds a stream of
-//! 1000 notes, three bytes each.
+//! 1000 notes, three bytes each, and `bound` looks up notes of the last of 1024 bindings.
 //! Other words do nothing. The status is 1 where a message was not read as it has to be.
 #![tactic(auto)]
 
+use midi_bindings::{Bindings, read_bindings};
 use midi_reader::{MidiEvent, MidiReader};
 use osc_paths::{Request, command_of};
 use osc_reader::read_packet;
@@ -96,6 +97,39 @@ fn feeds_again(bytes: &[u8], count: u64) -> bool {
     true
 }
 
+/// A text of 1024 bindings.
+fn lines(alloc: Global) -> Result<Vec<u8>, AllocError> {
+    let mut text = Vec::new(alloc);
+    text.extend_from_slice(b"looper bindings 1\n")?;
+    for _ in 0..1023 {
+        text.extend_from_slice(b"on 16 127 hit 0 record\n")?;
+    }
+    text.extend_from_slice(b"on 1 60 hit 0 record\nend\n")?;
+    Ok(text)
+}
+
+/// Looks notes of the last binding up again and again.
+fn looks_again(bindings: &Bindings, count: u64) -> bool {
+    for turn in 0..count {
+        let velocity = (turn % 127 + 1) as u8;
+        if bindings
+            .lookup(MidiEvent::NoteOn(0, 60, velocity))
+            .is_none()
+        {
+            return false;
+        }
+    }
+    true
+}
+
+/// Reads the bindings and looks notes up.
+fn is_bound(alloc: Global, text: &[u8], count: u64) -> bool {
+    match read_bindings(alloc, text, 1) {
+        Ok(bindings) => looks_again(&bindings, count),
+        Err(_) => false,
+    }
+}
+
 /// Does what the words say, and tells whether all was read as it has to be.
 fn passed(alloc: Global, words: &[String]) -> Result<bool, AllocError> {
     let [kind, count] = words else {
@@ -106,6 +140,7 @@ fn passed(alloc: Global, words: &[String]) -> Result<bool, AllocError> {
         "hit" => Ok(reads_again(alloc, &HIT, 1, count)),
         "flood" => Ok(reads_again(alloc, &flood(alloc)?, HITS, count)),
         "midi" => Ok(feeds_again(&stream(alloc)?, count)),
+        "bound" => Ok(is_bound(alloc, &lines(alloc)?, count)),
         _ => Ok(true),
     }
 }
