@@ -72,7 +72,7 @@ pub left_unanswered-append : (en : Entry) (l : Looper) (xs ys : List Save) → l
 left_unanswered-append en l xs ys = kept-append_if (is_taken en l) en.command xs ys
 
 -- the saves that wait behind an entry
-waiting_took : (en : Entry) (e : EngineOf) → ClearsSent en e → waiting (took en e) ≡ unanswered_after en e.looper (waiting e)
+pub waiting_took : (en : Entry) (e : EngineOf) → ClearsSent en e → waiting (took en e) ≡ unanswered_after en e.looper (waiting e)
 waiting_took en e clears =
     let made = option_to_list (save en e.looper)
     in sym (append_assoc (left_unanswered en e.looper e.due) e.sending made)
@@ -94,12 +94,12 @@ part_within (s ∷ saves) part is = let both = length-append (blocks_of_save s) 
 some_blocks : (s : Save) → 0 < length (blocks_of_save s)
 some_blocks s = omega arith
 
-part_more : (saves : List Save) (part : ℕ) (made : Option Save) → IsPart saves part → IsPart (saves ++ option_to_list made) part
+pub part_more : (saves : List Save) (part : ℕ) (made : Option Save) → IsPart saves part → IsPart (saves ++ option_to_list made) part
 part_more [] part None is = is
 part_more [] part (Some s) is = let some = some_blocks s in omega arith
 part_more (s ∷ saves) part made is = is
 
-left_more : (part : ℕ) (saves more : List Save) → IsPart saves part → drop part (blocks_for_all (saves ++ more)) ≡ drop part (blocks_for_all saves) ++ blocks_for_all more
+pub left_more : (part : ℕ) (saves more : List Save) → IsPart saves part → drop part (blocks_for_all (saves ++ more)) ≡ drop part (blocks_for_all saves) ++ blocks_for_all more
 left_more part saves more is = ap (drop part) (blocks_for_all-append saves more) ∙ drop-append-le part (blocks_for_all saves) (blocks_for_all more) (part_within saves part is)
 
 pub took_in_step :

@@ -1,4 +1,5 @@
 -- While a journal is read line by line, a line is taken behind the entries so far, or it is wrong there.
+-- "Journal" in docs/formats.md.
 use Rattle.std.specs.Prelude.{ℕ, ◌≡◌, List, [], ◌∷◌, ◌++◌, ⊤}
 use Rattle.sl_commands.specs.declared.entry.Entry.{Entry}
 use Rattle.sl_commands.specs.declared.fault.TextKind.{TextKind}

@@ -1,5 +1,6 @@
 -- What layers over a tape are seen as, of their inside: the closed layers, the layer that is being written, and the pin.
 -- The open layer's base and its seams are the list and the seams of the newest closed layer, where it is opened over that.
+-- "Layers" in docs/rules.md.
 use Rattle.std.specs.Prelude.{◌≡◌, ◌≤◌, ◌<◌, ℕ, ◌+◌, ⊤, Bool, true, false, List, [], ◌∷◌, length, Option, Some, None, is_some}
 use Rattle.sl_base.specs.Limits.{max_layers, max_seams}
 use Rattle.looper_rules.specs.Layers.{Layer, total_seams, current_list, current_end, current_seams}

@@ -1,4 +1,5 @@
 -- The numbers of a stack that its loop asks for.
+-- "The stack" in docs/rules.md.
 use Rattle.std.specs.Prelude.{◌≡◌, length, is_some}
 use Rattle.looper_rules.specs.Layers.{total_seams, current_length, current_cycle, current_base_length}
 use Rattle.looper_rules.specs.Stack.{Stack}

@@ -24,6 +24,8 @@ mod pinning;
 mod reading;
 mod sizes;
 mod spans;
+#[cfg(test)]
+mod tests;
 mod writing;
 
 pub use laws::{

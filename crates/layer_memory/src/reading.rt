@@ -139,6 +139,16 @@ impl Layers {
         self.read_saved(pool, place, out);
     }
 
+    /// The length of the pinned list in frames, 0 where no pin stands.
+    pub fn saved_length(&self) -> u32
+        ensures { result ≡ length (pinned_list self.now.stack.pin) }
+    {
+        match self.pin {
+            None => 0,
+            Some(_) => self.pinned.len(),
+        }
+    }
+
     /// Searches a place of the pinned list, so that reads from there on search nothing. Past the end it does nothing.
     pub fn seek_saved(&mut self, place: u32)
         ensures { self.new ≡ self.old }

@@ -30,7 +30,7 @@ impl Layers {
     {
         self.fill.check();
         let address = self.fill.address(place);
-        if self.fill.is_fresh(place) {
+        if self.fill.marks(address) {
             Some(address)
         } else {
             None

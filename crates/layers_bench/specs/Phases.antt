@@ -1,4 +1,5 @@
 -- Layers over their pool, with no layer open and with one open.
+-- "Layers" in docs/rules.md.
 use Rattle.std.specs.Prelude.{◌<◌, IsFalse, IsTrue, length}
 use Rattle.loop_tape.specs.Pools.{PoolOf}
 use Rattle.loop_tape.specs.Tapes.{Owns}

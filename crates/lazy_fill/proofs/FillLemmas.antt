@@ -8,6 +8,7 @@ use Rattle.sl_commands.specs.declared.How.TheVariants.{Forward, Backward, Insert
 use Rattle.looper_rules.specs.Layers.{fresh_cell}
 use Rattle.looper_rules.specs.Stack.{LastWrite}
 use Rattle.looper_rules.specs.States.{IsBehind}
+use Rattle.looper_rules.specs.WritePlaces.{Follows, IsPlace}
 use Rattle.looper_rules.specs.Writing.{with_cell}
 use Rattle.pieces.specs.Pieces.{Piece, Solid, addresses, total}
 use Rattle.pieces.proofs.AddressLemmas.{length-addresses, addresses-append, addresses-before}
@@ -15,7 +16,7 @@ use Rattle.pieces.proofs.OneMoreLemmas.{overwritten-length, overwritten-length-r
 use Rattle.pieces.proofs.BackwardLemmas.{down-length, down-length-runs, down-extended, overwritten-down-solid}
 use Rattle.lazy_fill.specs.Addresses.{Below, Without, Once}
 use Rattle.lazy_fill.specs.Marks.{marked, marked_cell}
-use Rattle.lazy_fill.specs.Runs.{with_address, more_seams, Follows, IsShort, IsRunning, IsRunOn, IsPlace, MeetsPiece, pieces_written}
+use Rattle.lazy_fill.specs.Runs.{with_address, more_seams, IsShort, IsRunning, IsRunOn, MeetsPiece, pieces_written}
 use Rattle.lazy_fill.specs.Fills.{FillOf, IsFill, fill_written, fill_cut, fill_extended}
 
 pub below-more : (m n : ℕ) (xs : List ℕ) → m ≤ n → Below m xs → Below n xs

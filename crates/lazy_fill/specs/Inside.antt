@@ -1,4 +1,5 @@
 -- What a fill is seen as, of its inside.
+-- "The layer that is written" in docs/rules.md.
 use Rattle.std.specs.Prelude.{◌≡◌, Option, Some, None}
 use Rattle.sl_base.specs.Limits.{max_seams}
 use Rattle.looper_rules.specs.Stack.{LastWrite}

@@ -1,12 +1,11 @@
 -- A write puts an address over the one at a place (forward or backward), before it, or at the end.
--- In a run each write has the place next to the one before it, and the piece of the last write goes on to the next address.
+-- While a run goes on, the piece of its last write goes on to the next address.
 -- "Pieces" and "The layer that is written" in docs/rules.md.
-use Rattle.std.specs.Prelude.{◌≡◌, ◌≤◌, ◌<◌, ℕ, ◌+◌, ⊤, List, ◌∷◌, [], ◌++◌, Option, Some, None, is_some, slice_set, insert, if◌then◌else◌}
+use Rattle.std.specs.Prelude.{◌≤◌, ◌<◌, ℕ, ◌+◌, ⊤, List, ◌∷◌, [], ◌++◌, Option, Some, None, is_some, slice_set, insert, if◌then◌else◌}
 use Rattle.sl_base.specs.Limits.{max_list_frames}
 use Rattle.sl_commands.specs.declared.How.{How}
 use Rattle.sl_commands.specs.declared.How.TheVariants.{Forward, Backward, Insert, Append}
 use Rattle.looper_rules.specs.Stack.{LastWrite}
-use Rattle.looper_rules.specs.States.{IsBehind}
 use Rattle.pieces.specs.Pieces.{Piece}
 use Rattle.pieces.specs.OneMore.{Continues, ContinuesBackward, inserted, joined, overwritten, overwritten_backward}
 
@@ -24,24 +23,12 @@ pieces_written Backward place a ps = overwritten_backward place a ps
 pieces_written Insert place a ps = inserted place a ps
 pieces_written Append place a ps = joined a ps
 
--- a place that a write may take in a list of this length
-abbrev pub IsPlace : How → ℕ → ℕ → Type 0
-IsPlace Forward place len = place < len
-IsPlace Backward place len = place < len
-IsPlace Insert place len = place < len
-IsPlace Append place len = place ≡ len
-
 -- the list is short enough for a write
 abbrev pub IsShort : How → ℕ → Type 0
 IsShort Forward len = len ≤ max_list_frames
 IsShort Backward len = len ≤ max_list_frames
 IsShort Insert len = len < max_list_frames
 IsShort Append len = len < max_list_frames
-
--- the write goes on with the run
-abbrev pub Follows : Option LastWrite → How → ℕ → Type 0
-Follows None how place = ⊤
-Follows (Some last) how place = (last.how ≡ how) × IsBehind how last.place place
 
 -- what a write adds to the seams
 abbrev pub more_seams : Option LastWrite → ℕ

@@ -3,13 +3,14 @@
 ghost use Rattle.std.specs.Prelude.{◌≡◌, ◌≤◌, ◌<◌, ◌+◌, ◌^◌, [], length, is_some, IfOk, IfSome, nat_le, slice_index};
 ghost use Rattle.sl_base.specs.Limits.{max_list_frames, max_seams};
 ghost use Rattle.looper_rules.specs.Layers.{fresh_cell};
+ghost use Rattle.looper_rules.specs.WritePlaces.{Follows, IsPlace};
 ghost use Rattle.looper_rules.specs.Writing.{with_cell};
 ghost use Rattle.pieces.specs.Pieces.{Solid, addresses};
 ghost use Rattle.pieces.specs.Splitting.{IsHint};
 ghost use Rattle.lazy_fill.specs.Addresses.{Below};
 ghost use Rattle.lazy_fill.specs.Fills.{IsFill, fill_broken, fill_cut, fill_extended, fill_frozen, fill_started, fill_written};
 ghost use Rattle.lazy_fill.specs.Marks.{marked};
-ghost use Rattle.lazy_fill.specs.Runs.{Follows, IsPlace, IsRunOn, IsShort, MeetsPiece, more_seams};
+ghost use Rattle.lazy_fill.specs.Runs.{IsRunOn, IsShort, MeetsPiece, more_seams};
 
 use crate::write::write_address;
 use pieces::{Hint, Piece, PieceList};
@@ -167,7 +168,14 @@ impl Fill {
         requires { place < length self.now.cells }
         ensures { result ≡ nat_le self.now.floor (slice_index self.now.cells place) }
     {
-        self.floor <= self.list.address(place)
+        self.marks(self.list.address(place))
+    }
+
+    /// Whether a cell that holds this address is fresh.
+    pub fn marks(&self, address: u32) -> bool
+        ensures { result ≡ nat_le self.now.floor address }
+    {
+        self.floor <= address
     }
 
     /// Ends the run.

@@ -1,7 +1,8 @@
 //! An address written into a list of pieces.
 
 ghost use Rattle.std.specs.Prelude.{◌≡◌, ◌≤◌, ◌<◌, ◌+◌, length};
-ghost use Rattle.lazy_fill.specs.Runs.{IsPlace, IsRunOn, IsShort, pieces_written, with_address};
+ghost use Rattle.looper_rules.specs.WritePlaces.{IsPlace};
+ghost use Rattle.lazy_fill.specs.Runs.{IsRunOn, IsShort, pieces_written, with_address};
 ghost use Rattle.pieces.specs.Pieces.{addresses, holding};
 
 use pieces::PieceList;

@@ -38,7 +38,7 @@ use Rattle.loop_strip.proofs.DidLemmas.{seen-is, seen_deck, seen_controls, reach
 use Rattle.loop_strip.proofs.OpeningLemmas.{layers_of, did_refused}
 
 -- what always holds lasts through what keeps every loop
-seen_keeps : (s : Parts) (p : PoolOf) → IsWhole s → KeepsLoop (own (reach_in (strip_of s) p) s) (seen (strip_of s) p)
+pub seen_keeps : (s : Parts) (p : PoolOf) → IsWhole s → KeepsLoop (own (reach_in (strip_of s) p) s) (seen (strip_of s) p)
 seen_keeps s p w =
     let r = reach_in (strip_of s) p
     in subst (λ (l : Loop Sound). KeepsLoop (own r s) l) (sym (seen-is (strip_of s) p)) (keeps_there (at s.layers.tape p) (loop_of s) (whole_keeps r s (within_reach (strip_of s) p) w))

@@ -11,3 +11,9 @@ pub mod PassLemmas
 pub mod QuietLemmas
 pub mod SavingLemmas
 pub mod StripLemmas
+pub mod LoadLemmas
+pub mod StretchLemmas
+pub mod BudgetLemmas
+pub mod LawLemmas
+pub mod RecordLemmas
+pub mod TurnLemmas

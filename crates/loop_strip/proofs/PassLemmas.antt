@@ -1,5 +1,7 @@
 -- A frame written or passed, and frames one after another.
-use Rattle.std.proofs.Common.{◌≡◌, ℕ, zero, suc, ◌+◌, ◌≤◌, ◌<◌, Bool, true, false, List, [], ◌∷◌, ◌++◌, length, take, set, get_or, cond, refl, sym, ap, ap₂, subst, ◌∙◌, arith}
+use Rattle.std.proofs.Common.{◌≡◌, ℕ, zero, suc, ◌+◌, ◌≤◌, ◌<◌, Bool, true, false, List, [], ◌∷◌, ◌++◌, length, take, drop, set, get_or, take-add, cond, refl, sym, ap, ap₂, subst, ◌∙◌, arith}
+use Rattle.std.proofs.Math.Seq.{take-append-add, take-append_seam}
+use Rattle.std.proofs.lemmas.List.{length-take-le}
 use Rattle.std.specs.Prelude.{slice_set}
 use Rattle.std.specs.List.{insert}
 use Rattle.sl_base.specs.Limits.{max_list_frames}
@@ -12,7 +14,7 @@ use Rattle.looper_rules.specs.Layers.{Layer, current_length, current_list, with_
 use Rattle.looper_rules.specs.Stack.{Stack}
 use Rattle.looper_rules.specs.Writing.{overwrites, meets_fresh, with_written, rewritten, newly_written, written, write_fits}
 use Rattle.looper_rules.specs.Loop.{Loop, Deck, is_writing, length_of, with_stack}
-use Rattle.looper_rules.specs.LoopFrame.{ready, heard, sound_at, new_frame, how_in, fits, with_input, advanced_in, advanced, overrun_in, writes, passes, after, frame_later}
+use Rattle.looper_rules.specs.LoopFrame.{ready, heard, heard_from, sound_at, new_frame, how_in, fits, with_input, advanced_in, advanced, overrun_in, writes, passes, after, frame_later}
 use Rattle.looper_rules.specs.LoopSpans.{loop_over, loop_heard_over}
 use Rattle.looper_laws.proofs.Kept.LoopFrame.{IsPlaced, framed_keeps}
 use Rattle.loop_tape.specs.Pools.{PoolOf}
@@ -44,7 +46,7 @@ insert_length (y ∷ ys) zero x less = refl
 insert_length [] (suc k) x less = absurd (omega arith)
 insert_length (y ∷ ys) (suc k) x less = ap suc (insert_length ys k x (omega arith))
 
-written_as : {A : Type 0} (fresh : Bool) (how : How) (place : ℕ) (a : A) (s : Stack A) (P : List (Layer A) → Type 0) → ((more : ℕ) → P (with_current (with_written how place a more) s.layers)) →
+pub written_as : {A : Type 0} (fresh : Bool) (how : How) (place : ℕ) (a : A) (s : Stack A) (P : List (Layer A) → Type 0) → ((more : ℕ) → P (with_current (with_written how place a more) s.layers)) →
     P (cond fresh (rewritten how place a s) (newly_written how place a s)).layers
 written_as true how place a s P h = h 0
 written_as false how place a s P h = h _
@@ -109,6 +111,21 @@ unfolding seen
 wrote_seen x next how s h p p' nexts way w =
     ap (λ (t : Stack Sound). with_stack t (loop_map (at s.layers.tape p) (loop_of s))) (w.seen ∙ ap₂ (λ k n. written k s.deck.pos n (seen_layers s.layers p)) way nexts)
 
+-- what is heard is what is mixed, where anything is
+new_heard : (mode : Mode) (feedback : ℕ) (list : List Sound) (place : ℕ) (x : Sound) → new_frame mode feedback (heard_from mode list place) x ≡ new_frame mode feedback (sound_at list place) x
+new_heard Overdubbing feedback list place x = refl
+new_heard Multiplying feedback list place x = refl
+new_heard _ feedback list place x = refl
+
+pub next_is : (mode : Mode) (x next sound : Sound) (s : Parts) (p : PoolOf) → s.deck.mode ≡ mode → sound ≡ heard (seen (strip_of s) p) → next ≡ new_frame mode s.controls.feedback sound x →
+    next ≡ new_frame s.deck.mode s.controls.feedback (sound_at (current_list (seen_layers s.layers p).layers) s.deck.pos) x
+unfolding seen
+next_is mode x next sound s p is sounds nexts =
+    let list = current_list (seen_layers s.layers p).layers
+    in nexts ∙ ap (λ o. new_frame mode s.controls.feedback o x) sounds
+    ∙ ap (λ m. new_frame m s.controls.feedback (heard_from s.deck.mode list s.deck.pos) x) (sym is)
+    ∙ new_heard s.deck.mode s.controls.feedback list s.deck.pos x
+
 fits_seen : (how : How) (s : Parts) (p : PoolOf) (fit : Bool) → Owns (strip_of s) p → how ≡ how_in s.deck.mode s.deck.backward → write_fits (reach s.layers p) how s.deck.pos (seen_layers s.layers p) ≡ fit →
     fits (reach_in (strip_of s) p) (seen (strip_of s) p) ≡ fit
 unfolding seen
@@ -153,23 +170,13 @@ pub heard_ready : (x sound : Sound) (s s1 : Parts) (p p1 : PoolOf) → Did (read
 heard_ready x sound s s1 p p1 d is = is ∙ ap heard d.seen
 
 -- frames in a row
-take_more : {A : Type 0} (i : ℕ) (xs : List A) (x : A) → i < length xs → x ≡ get_or xs i x → take (i + 1) xs ≡ take i xs ++ x ∷ []
-take_more i [] x less is = absurd (omega arith)
-take_more zero (y ∷ ys) x less is = ap (λ z. z ∷ []) (sym is)
-take_more (suc i) (y ∷ ys) x less is = let more : suc i + 1 ≡ suc (i + 1) = omega arith in rw more (ap (λ zs. y ∷ zs) (take_more i ys x (omega arith) is))
+over_append : (xs ys : List Sound) (reach : ℕ) (l : Loop Sound) → loop_over (xs ++ ys) reach l ≡ loop_over ys reach (loop_over xs reach l)
+over_append [] ys reach l = refl
+over_append (x ∷ xs) ys reach l = over_append xs ys reach (frame_later x reach l)
 
-over_more : (xs : List Sound) (x : Sound) (reach : ℕ) (l : Loop Sound) → loop_over (xs ++ x ∷ []) reach l ≡ frame_later x reach (loop_over xs reach l)
-over_more [] x reach l = refl
-over_more (y ∷ ys) x reach l = over_more ys x reach (frame_later y reach l)
-
-heard_more : (xs : List Sound) (x : Sound) (reach : ℕ) (l : Loop Sound) → loop_heard_over (xs ++ x ∷ []) reach l ≡ loop_heard_over xs reach l ++ heard (ready x reach (loop_over xs reach l)) ∷ []
-heard_more [] x reach l = refl
-heard_more (y ∷ ys) x reach l = ap (λ hs. heard (ready y reach l) ∷ hs) (heard_more ys x reach (frame_later y reach l))
-
-take_set : {A : Type 0} (i : ℕ) (xs : List A) (x : A) → i < length xs → take (i + 1) (set xs i x) ≡ take i xs ++ x ∷ []
-take_set i [] x less = absurd (omega arith)
-take_set zero (y ∷ ys) x less = refl
-take_set (suc i) (y ∷ ys) x less = let more : suc i + 1 ≡ suc (i + 1) = omega arith in rw more (ap (λ zs. y ∷ zs) (take_set i ys x (omega arith)))
+heard_append : (xs ys : List Sound) (reach : ℕ) (l : Loop Sound) → loop_heard_over (xs ++ ys) reach l ≡ loop_heard_over xs reach l ++ loop_heard_over ys reach (loop_over xs reach l)
+heard_append [] ys reach l = refl
+heard_append (x ∷ xs) ys reach l = ap (λ hs. heard (ready x reach l) ∷ hs) (heard_append xs ys reach (frame_later x reach l))
 
 take_all : {A : Type 0} (n : ℕ) (xs : List A) → n ≡ length xs → take n xs ≡ xs
 take_all zero [] is = refl
@@ -177,22 +184,52 @@ take_all (suc n) [] is = absurd (omega arith)
 take_all zero (x ∷ xs) is = absurd (omega arith)
 take_all (suc n) (x ∷ xs) is = ap (λ zs. x ∷ zs) (take_all n xs (omega arith))
 
+-- one frame alone
+take_first : {A : Type 0} (xs : List A) (x : A) → 1 ≤ length xs → x ≡ get_or xs 0 x → take 1 xs ≡ x ∷ []
+take_first [] x some is = absurd (omega (arith, some))
+take_first (y ∷ ys) x some is = ap (λ z. z ∷ []) (sym is)
+
+set_first : {A : Type 0} (xs : List A) (x : A) → 1 ≤ length xs → take 1 (set xs 0 x) ≡ x ∷ []
+set_first [] x some = absurd (omega (arith, some))
+set_first (y ∷ ys) x some = refl
+
+pub did_one : (xs : List Sound) (x : Sound) (s s' : Parts) (p p' : PoolOf) → 1 ≤ length xs → x ≡ get_or xs 0 x → Did (frame_later x) (strip_of s) (strip_of s') p p' → Did (loop_over (take 1 xs)) (strip_of s) (strip_of s') p p'
+did_one xs x s s' p p' some is d = did_also (sym (ap (λ ys. loop_over ys (reach_in (strip_of s) p) (seen (strip_of s) p)) (take_first xs x some is))) d
+
+pub heard_one : (xs hs : List Sound) (x h : Sound) (reach : ℕ) (l : Loop Sound) → 1 ≤ length xs → length xs ≡ length hs → x ≡ get_or xs 0 x → h ≡ heard (ready x reach l) → take 1 (set hs 0 h) ≡ loop_heard_over (take 1 xs) reach l
+heard_one xs hs x h reach l some same is sound =
+    set_first hs h (omega (arith, some, same)) ∙ ap (λ z. z ∷ []) sound ∙ sym (ap (λ ys. loop_heard_over ys reach l) (take_first xs x some is))
+
+-- a part of the list that was replaced
+pub take_part : {A : Type 0} (n : ℕ) (part rest new : List A) → length part ≡ n → new ≡ part ++ rest → take n new ≡ part
+take_part n part rest new long is = ap (take n) is ∙ ap (λ k. take k (part ++ rest)) (sym long) ∙ take-append_seam part rest
+
 pub runs_first : (xs heard : List Sound) (s : Parts) (p : PoolOf) → Owns (strip_of s) p → IsWhole s → RunsTo 0 xs heard s s p p
 runs_first xs heard s p o w = record { did = did_nothing o; heard = refl; whole = w }
 
-pub runs_more : (i : ℕ) (xs hs : List Sound) (x h : Sound) (first now then : Parts) (p p1 p2 : PoolOf) → i < length xs → length xs ≡ length hs → x ≡ get_or xs i x → RunsTo i xs hs first now p p1 →
-    Did (frame_later x) (strip_of now) (strip_of then) p1 p2 → h ≡ heard (ready x (reach_in (strip_of now) p1) (seen (strip_of now) p1)) → IsWhole then → RunsTo (i + 1) xs (set hs i h) first then p p2
-runs_more i xs hs x h first now then p p1 p2 less same is so d sound w =
+take_within : {A : Type 0} (n : ℕ) (xs ys : List A) → n ≤ length xs → take n (xs ++ ys) ≡ take n xs
+take_within zero xs ys le = refl
+take_within (suc n) [] ys le = absurd (omega (arith, le))
+take_within (suc n) (x ∷ xs) ys le = ap (λ zs. x ∷ zs) (take_within n xs ys (omega (arith, le)))
+
+pub runs_more : (done count : ℕ) (xs hs part behind new : List Sound) (first now then : Parts) (p p1 p2 : PoolOf) → done ≤ length hs → count ≤ length part → RunsTo done xs hs first now p p1 →
+    Did (loop_over (take count (drop done xs))) (strip_of now) (strip_of then) p1 p2 → take count part ≡ loop_heard_over (take count (drop done xs)) (reach_in (strip_of now) p1) (seen (strip_of now) p1) →
+    new ≡ take done hs ++ (part ++ behind) → IsWhole then → RunsTo (done + count) xs new first then p p2
+runs_more done count xs hs part behind new first now then p p1 p2 le few so d sound is w =
     let r = reach_in (strip_of first) p
     in let l = seen (strip_of first) p
-    in let more : take (i + 1) xs ≡ take i xs ++ x ∷ [] = take_more i xs x less is
-    in let both : Did (λ reach k. frame_later x reach (loop_over (take i xs) reach k)) (strip_of first) (strip_of then) p p2 = did_then so.did d
+    in let rest = take count (drop done xs)
+    in let more : take (done + count) xs ≡ take done xs ++ rest = take-add done count xs
+    in let both : Did (λ reach k. loop_over rest reach (loop_over (take done xs) reach k)) (strip_of first) (strip_of then) p p2 = did_then so.did d
+    in let front : take (done + count) new ≡ take done hs ++ take count part =
+    ap (take (done + count)) is ∙ ap (λ n. take (n + count) (take done hs ++ (part ++ behind))) (sym (length-take-le done hs le)) ∙ take-append-add (take done hs) (part ++ behind) count
+    ∙ ap (λ zs. take done hs ++ zs) (take_within count part behind few)
     in record {
-      did = did_also (sym (over_more (take i xs) x r l) ∙ ap (λ ys. loop_over ys r l) (sym more)) both;
+      did = did_also (sym (over_append (take done xs) rest r l) ∙ ap (λ ys. loop_over ys r l) (sym more)) both;
       heard =
-          take_set i hs h (omega arith)
-          ∙ ap₂ (λ ys z. ys ++ z ∷ []) so.heard (sound ∙ ap₂ (λ n k. heard (ready x n k)) so.did.reach so.did.seen)
-          ∙ sym (heard_more (take i xs) x r l) ∙ ap (λ ys. loop_heard_over ys r l) (sym more);
+          front
+          ∙ ap₂ (λ ys zs. ys ++ zs) so.heard (sound ∙ ap₂ (λ n k. loop_heard_over rest n k) so.did.reach so.did.seen)
+          ∙ sym (heard_append (take done xs) rest r l) ∙ ap (λ ys. loop_heard_over ys r l) (sym more);
       whole = w;
     }
 

@@ -24,11 +24,11 @@ IsStill Muted = ⊤
 IsStill Paused = ⊤
 IsStill _ = ⊥
 
-on_tape : (round : Bool) (l : Loop Sound) → chunks_of (goes_on round l).stack.tape ≡ chunks_of l.stack.tape
+pub on_tape : (round : Bool) (l : Loop Sound) → chunks_of (goes_on round l).stack.tape ≡ chunks_of l.stack.tape
 on_tape true l = refl
 on_tape false l = refl
 
-on_face : (round : Bool) (l : Loop Sound) → face_of (goes_on round l) ≡ face_goes_on round (face_of l)
+pub on_face : (round : Bool) (l : Loop Sound) → face_of (goes_on round l) ≡ face_goes_on round (face_of l)
 on_face true l = refl
 on_face false l = refl
 
@@ -83,7 +83,7 @@ pub ruleset quieting = (quiet_still, quiet_once)
 
 -- a loop that waits for its threshold stays as it is at a soft frame
 module _ (l : Loop Sound) (is : l.deck.mode ≡ WaitStart) (x : Sound) (soft : nat_le l.controls.rec_thresh (loudness x) ≡ false) where
-  soft_ready : (reach : ℕ) → ready x reach l ≡ l
+  pub soft_ready : (reach : ℕ) → ready x reach l ≡ l
   soft_ready reach =
       ap (λ (k : Loop Sound). ready_in k.deck.mode (k.deck.pos == length_of k) k) (ap (λ m. awake_in m (nat_le l.controls.rec_thresh (loudness x)) reach l) is ∙ ap (λ b. awake_in WaitStart b reach l) soft)
       ∙ ap (λ m. ready_in m (l.deck.pos == length_of l) l) is
@@ -91,7 +91,7 @@ module _ (l : Loop Sound) (is : l.deck.mode ≡ WaitStart) (x : Sound) (soft : n
   soft_after : (reach : ℕ) → after x reach l ≡ l
   soft_after reach = ap (λ m. passes (is_writing m) x reach l) is ∙ ap (λ m. advanced_in m l) is
 
-  soft_later : (reach : ℕ) → frame_later x reach l ≡ l
+  pub soft_later : (reach : ℕ) → frame_later x reach l ≡ l
   soft_later reach = ap (after x reach) (soft_ready reach) ∙ soft_after reach
 
   soft_frame : IsQuietFrame x l
@@ -116,7 +116,7 @@ over_waiting n input s is soft = λ p reach.
     soft_behind (take n input) reach (seen (strip_of s) p) (ap (λ (d : Deck). d.mode) (seen_deck (strip_of s) p) ∙ is)
     (subst (λ (c : Controls). AreSoft c.rec_thresh (take n input)) (sym (seen_controls (strip_of s) p)) soft)
 
-taken : (n : ℕ) (xs : List Sound) → length (take n xs) ≤ n
+pub taken : (n : ℕ) (xs : List Sound) → length (take n xs) ≤ n
 taken zero xs = omega arith
 taken (suc n) [] = omega arith
 taken (suc n) (x ∷ xs) = let less = taken n xs in omega arith

@@ -7,3 +7,7 @@ pub mod Running
 pub mod Carrying
 pub mod Advances
 pub mod Quiet
+pub mod Loading
+pub mod Stretches
+pub mod Budgets
+pub mod Laws

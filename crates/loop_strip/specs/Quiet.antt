@@ -18,3 +18,7 @@ IsQuietOver n input s = (p : PoolOf) (reach : ℕ) → AreQuietBehind (take n in
 abbrev pub AreSoft : ℕ → List Sound → Type 0
 AreSoft threshold [] = ⊤
 AreSoft threshold (x ∷ xs) = (nat_le threshold (loudness x) ≡ false) × AreSoft threshold xs
+
+-- the longest stretch that is told
+abbrev pub most_told : ℕ
+most_told = 1048576

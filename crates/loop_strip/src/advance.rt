@@ -98,8 +98,10 @@ impl Parts {
             self.break_any_run();
             self.deck.mode = wrapped_mode(self.deck.mode);
             self.deck.pos = wrapped_place(self.deck.backward, length);
+            self.layers.seek(self.deck.pos);
         } else {
             self.deck.pos = next_place(self.deck.backward, self.deck.pos);
+            self.layers.seek(self.deck.pos);
         }
     }
 

@@ -228,24 +228,15 @@ impl Parts {
         }
     }
 
-    /// The frame that is written in this mode.
+    /// The frame that is written in this mode, where this one is heard.
     #[tactic(auto, using(crate::proofs::FrameLemmas::mixing))]
-    pub(crate) fn mix_in(&self, pool: &Pool, mode: Mode, frame: &Frame) -> Frame
+    pub(crate) fn mix_in(&self, mode: Mode, heard: &Frame, frame: &Frame) -> Frame
         requires whole { IsWhole self.now }
-        requires owns { Owns (strip_of self.now) pool.now }
-        requires is { self.now.deck.mode ≡ mode }
-        requires placed { IsPlaced mode self.now.deck.pos (length_of (loop_of self.now)) }
-        ensures { result ≡ new_frame mode self.now.controls.feedback (sound_at (current_list (seen_layers self.now.layers pool.now).layers) self.now.deck.pos) frame.now }
+        ensures { result ≡ new_frame mode self.now.controls.feedback heard.now frame.now }
     {
         match mode {
-            Mode::Overdubbing => {
-                let old = self.layers.read(pool, self.deck.pos);
-                mix(&old, self.controls.feedback, frame)
-            }
-            Mode::Multiplying => {
-                let old = self.layers.read(pool, self.deck.pos);
-                mix(&old, self.controls.feedback, frame)
-            }
+            Mode::Overdubbing => mix(heard, self.controls.feedback, frame),
+            Mode::Multiplying => mix(heard, self.controls.feedback, frame),
             _ => *frame,
         }
     }

@@ -18,17 +18,18 @@ use sl_commands::Mode;
 impl Parts {
     /// Writes a frame in this mode and goes on, or closes the layer where that doesn't fit.
     #[tactic(auto, using(crate::proofs::PassLemmas::writing))]
-    fn pass_writing(&mut self, pool: &mut Pool, mode: Mode, frame: &Frame)
+    fn pass_writing(&mut self, pool: &mut Pool, mode: Mode, sound: &Frame, frame: &Frame)
         requires whole { IsWhole self.old }
         requires owns { Owns (strip_of self.old) pool.old }
         requires is { self.old.deck.mode ≡ mode }
         requires writes { is_writing mode ≡ true }
         requires placed { IsPlaced mode self.old.deck.pos (length_of (loop_of self.old)) }
+        requires heard { sound.now ≡ heard (seen (strip_of self.old) pool.old) }
         ensures did { Did (passes true frame.now) (strip_of self.old) (strip_of self.new) pool.old pool.new }
         ensures pinned { self.new.pinned ≡ self.old.pinned }
         ensures writing { self.new.layers.writing ≡ is_writing self.new.deck.mode }
     {
-        let next = self.mix_in(pool, mode, frame);
+        let next = self.mix_in(mode, sound, frame);
         let how = how_in(mode, self.deck.backward);
         let pos = self.deck.pos;
         if self.layers.write(pool, pos, next, how) {
@@ -57,18 +58,19 @@ impl Parts {
     }
 
     /// A frame for which the loop is ready, by whether it is written.
-    fn pass_as(&mut self, pool: &mut Pool, writing: bool, mode: Mode, frame: &Frame)
+    fn pass_as(&mut self, pool: &mut Pool, writing: bool, mode: Mode, sound: &Frame, frame: &Frame)
         requires whole { IsWhole self.old }
         requires owns { Owns (strip_of self.old) pool.old }
         requires is { self.old.deck.mode ≡ mode }
         requires writes { writing ≡ is_writing mode }
         requires placed { IsPlaced mode self.old.deck.pos (length_of (loop_of self.old)) }
+        requires heard { sound.now ≡ heard (seen (strip_of self.old) pool.old) }
         ensures did { Did (passes writing frame.now) (strip_of self.old) (strip_of self.new) pool.old pool.new }
         ensures pinned { self.new.pinned ≡ self.old.pinned }
         ensures writing { self.new.layers.writing ≡ is_writing self.new.deck.mode }
     {
         if writing {
-            self.pass_writing(pool, mode, frame);
+            self.pass_writing(pool, mode, sound, frame);
         } else {
             self.pass_quiet(pool, mode, frame);
         }
@@ -76,7 +78,7 @@ impl Parts {
 
     /// One frame; what is heard.
     #[tactic(auto, using(crate::proofs::PassLemmas::framing))]
-    fn frame(&mut self, pool: &mut Pool, frame: &Frame) -> Frame
+    pub(crate) fn frame(&mut self, pool: &mut Pool, frame: &Frame) -> Frame
         requires whole { IsWhole self.old }
         requires owns { Owns (strip_of self.old) pool.old }
         ensures did { Did (frame_later frame.now) (strip_of self.old) (strip_of self.new) pool.old pool.new }
@@ -87,7 +89,7 @@ impl Parts {
         self.prepare(pool, frame);
         let sound = self.hear(pool);
         let mode = self.deck.mode;
-        self.pass_as(pool, is_writing(mode), mode, frame);
+        self.pass_as(pool, is_writing(mode), mode, &sound, frame);
         sound
     }
 
@@ -101,8 +103,9 @@ impl Parts {
         ensures heard { heard.new ≡ loop_heard_over input.now (reach_in (strip_of self.old) pool.old) (seen (strip_of self.old) pool.old) }
         ensures whole { IsWhole self.new }
     {
-        for i in 0..input.len() {
-            heard[i] = self.frame(pool, &input[i]);
+        let mut done = 0;
+        while done < input.len() {
+            done += self.take_some(pool, &input[done..], &mut heard[done..]);
         }
     }
 }

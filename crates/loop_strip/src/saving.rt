@@ -1,15 +1,43 @@
-//! Pins for saves.
+//! What a save tells, and pins for it.
 
 ghost use Rattle.std.specs.Prelude.{◌≡◌, ℕ};
 ghost use Rattle.std.specs.declared.option.Option.TheVariants.{None};
 ghost use Rattle.looper_rules.specs.Loop.{with_stack};
-ghost use Rattle.looper_rules.specs.Saves.{pinned, unpinned};
+ghost use Rattle.looper_rules.specs.Saves.{pinned, unpinned, saved_cycle, strip_of as settings_of};
 ghost use Rattle.loop_strip.specs.Strips.{DidAlone};
 ghost use Rattle.loop_strip.specs.Parts.{loop_of, strip_of, IsWhole};
 
 use crate::parts::Parts;
+use sl_commands::{Mode, StripSettings};
+
+/// The cycle that a save tells of a loop in this mode.
+fn saved_cycle(mode: Mode, length: u32, cycle: u32) -> u32
+    ensures { result ≡ saved_cycle mode length cycle }
+{
+    match mode {
+        Mode::Recording => length,
+        _ => cycle,
+    }
+}
 
 impl Parts {
+    /// The settings that a save tells.
+    pub(crate) fn settings(&self) -> StripSettings
+        requires whole { IsWhole self.now }
+        ensures { result ≡ settings_of (loop_of self.now) }
+    {
+        let sizes = self.layers.sizes();
+        StripSettings {
+            length: sizes.length,
+            cycle: saved_cycle(self.deck.mode, sizes.length, sizes.cycle),
+            feedback: self.controls.feedback,
+            wet: self.controls.wet,
+            round: self.controls.round,
+            quantize: self.controls.quantize,
+            rec_thresh: self.controls.rec_thresh,
+        }
+    }
+
     /// Pins the list.
     #[tactic(auto, using(crate::proofs::SavingLemmas::pinning))]
     pub(crate) fn pin(&mut self)

@@ -1,6 +1,7 @@
 //! One loop over a pool, as it is called.
 
 ghost use Rattle.std.specs.Prelude.{◌≡◌, ℕ, ◌≤◌, ◌<◌, ◌+◌, List, [], pos, length, take, drop, get_or, IsTrue, IfOk};
+ghost use Rattle.sl_commands.specs.declared.StripSettings.{StripSettings};
 ghost use Rattle.std.specs.declared.option.Option.TheVariants.{None};
 ghost use Rattle.sl_base.specs.Limits.{max_chunks, max_list_frames};
 ghost use Rattle.sl_base.specs.Sounds.{Sound, silence};
@@ -12,13 +13,14 @@ ghost use Rattle.looper_rules.specs.Stack.{pinned_list};
 ghost use Rattle.looper_rules.specs.Values.{loop_value, reply_value};
 ghost use Rattle.looper_rules.specs.Entries.{sets};
 ghost use Rattle.looper_rules.specs.Presses.{waiting_acts};
-ghost use Rattle.looper_rules.specs.Saves.{pinned, unpinned};
+ghost use Rattle.looper_rules.specs.Saves.{pinned, unpinned, strip_of as settings_of};
 ghost use Rattle.looper_rules.specs.Room.{chunks_of};
 ghost use Rattle.looper_rules.specs.Run.{first_loop};
 ghost use Rattle.looper_rules.specs.LoopFrame.{frame_later};
 ghost use Rattle.looper_rules.specs.LoopSpans.{loop_over, loop_heard_over, AreQuiet, AreQuietBehind};
 ghost use Rattle.loop_tape.specs.Pools.{PoolOf};
 ghost use Rattle.loop_strip.specs.Strips.{StripOf, seen, free_in, reach_in, Owns, Did, DidAlone, gives};
+ghost use Rattle.loop_strip.specs.Loading.{IsNew, loads};
 
 use crate::deck::{Controls, Deck};
 use crate::parts::Parts;
@@ -62,6 +64,23 @@ impl Strip {
         }
     }
 
+    /// A new loop begins with this list, of 1 to 16777216 frames, and this cycle in frames, at most the list's length. There are chunks for all
+    /// frames.
+    #[tactic(auto, using(crate::proofs::LoadLemmas::beginning))]
+    pub fn load(&mut self, pool: &mut Pool, frames: &[Frame], cycle: u32)
+        requires owns { Owns self.old pool.old }
+        requires new { IsNew self.old.loop }
+        requires some { 1 ≤ length frames.now }
+        requires short { length frames.now ≤ max_list_frames }
+        requires cycle { 1 ≤ cycle }
+        requires cycle_within { cycle ≤ length frames.now }
+        requires room { chunks_of (length frames.now) ≤ free_in pool.old }
+        ensures did { Did (loads frames.now cycle) self.old self.new pool.old pool.new }
+        ensures first { (settings : StripSettings) → seen self.old pool.old ≡ first_loop [] settings → seen self.new pool.new ≡ first_loop frames.now (record settings { cycle = cycle }) }
+    {
+        self.parts.load(pool, frames, cycle);
+    }
+
     /// A verb given. `frame` is the number of the coming frame, and `long_press` the frames of a long press.
     pub fn give(&mut self, pool: &mut Pool, press: Press, verb: Verb, frame: u64, long_press: u32)
         requires owns { Owns self.old pool.old }
@@ -90,7 +109,8 @@ impl Strip {
 
     /// What is seen of the loop.
     pub fn face(&self) -> Face
-        ensures { (p : PoolOf) → result ≡ face_of (seen self.now p) }
+        ensures value { (p : PoolOf) → result ≡ face_of (seen self.now p) }
+        ensures addresses { result ≡ face_of self.now.loop }
     {
         self.parts.face()
     }
@@ -125,6 +145,13 @@ impl Strip {
         self.parts.set(control, value);
     }
 
+    /// The settings that a save of the loop tells: the length and cycle of its list in frames, and its controls.
+    pub fn settings(&self) -> StripSettings
+        ensures { (p : PoolOf) → result ≡ settings_of (seen self.now p) }
+    {
+        self.parts.settings()
+    }
+
     /// Pins the list for a save.
     pub fn pin(&mut self)
         requires free { self.old.loop.stack.pin ≡ None }
@@ -140,19 +167,28 @@ impl Strip {
         self.parts.release_pin();
     }
 
+    /// The length of the list that a save holds, in frames, 0 where none does.
+    pub fn saved_length(&self) -> u32
+        ensures { (p : PoolOf) → result ≡ length (pinned_list (seen self.now p).stack.pin) }
+    {
+        self.parts.layers.saved_length()
+    }
+
     /// The frame at a place of the pinned list.
+    #[tactic(auto, using(crate::proofs::StripLemmas::pinned_reads))]
     pub fn saved(&self, pool: &Pool, place: u32) -> Frame
         requires owns { Owns self.now pool.now }
-        requires place { place < length (pinned_list self.now.loop.stack.pin) }
+        requires place { place < length (pinned_list (seen self.now pool.now).stack.pin) }
         ensures { result ≡ get_or (pinned_list (seen self.now pool.now).stack.pin) place silence }
     {
         self.parts.layers.saved(pool, place)
     }
 
     /// The frames of the pinned list from a place on.
+    #[tactic(auto, using(crate::proofs::StripLemmas::pinned_reads))]
     pub fn saved_span(&self, pool: &Pool, place: u32, out: &mut [Frame])
         requires owns { Owns self.now pool.now }
-        requires place { place + length out.old ≤ length (pinned_list self.now.loop.stack.pin) }
+        requires place { place + length out.old ≤ length (pinned_list (seen self.now pool.now).stack.pin) }
         ensures { out.new ≡ take (length out.old) (drop place (pinned_list (seen self.now pool.now).stack.pin)) }
     {
         self.parts.layers.saved_span(pool, place, out);

@@ -1,5 +1,6 @@
 -- A pool fills a chunk with silence when the chunk is taken for the first time, the chunks in their order. So a new pool
 -- has filled none. A chunk that was given back is taken before the next new one.
+-- "Room" in docs/rules.md.
 use Rattle.std.specs.Prelude.{◌≤◌, ◌*◌}
 use Rattle.sl_base.specs.Limits.{chunk_frames}
 use Rattle.std.specs.Vec.{vec_capacity}

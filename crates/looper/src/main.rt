@@ -11,11 +11,14 @@ use std::{env, io};
 const USAGE: &str = "looper: records a phrase into a loop and lets it repeat
 
 usage: looper render IN JOURNAL OUT
+       looper show NAME
        looper --help
        looper --version
 
 render plays the WAV file IN into the loop with the commands of JOURNAL, and
-writes what is heard to the WAV file OUT. Files stand in the working directory.
+writes what is heard to the WAV file OUT. show tells the loops of a session: of
+the text NAME and the WAV files NAME-0.wav, NAME-1.wav and so on. Files stand in
+the working directory.
 
 status: 0 done, 2 other words, 3 a bad file, 4 a reading failed,
         5 a write failed, 8 out of memory

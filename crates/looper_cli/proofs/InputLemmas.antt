@@ -11,9 +11,9 @@ use Rattle.std.specs.Fmt.{decimal}
 use Rattle.std.specs.Prelude.{codes}
 use Rattle.std.proofs.lemmas.Fmt.{length-decimal-le}
 use Rattle.sl_base.specs.Limits.{max_session_frames}
-use Rattle.looper_cli.specs.FirstJournal.{IsFirstJournal, AreHits, hit_line, hit_lines, journal_text}
+use Rattle.looper_cli.specs.FirstJournal.{AreHits, hit_line, hit_lines, journal_text}
 use Rattle.looper_cli.specs.Inputs.{IsInput, IsJournal, IsShort, AreBytes, Has, SaysOf}
-use Rattle.looper_cli.specs.declared.status.FileFault.TheVariants.{Missing, NotYet}
+use Rattle.looper_cli.specs.declared.status.FileFault.TheVariants.{Missing, NotYet, At}
 use Rattle.looper_cli.specs.declared.status.RunFault.{RunFault}
 use Rattle.looper_cli.specs.declared.status.RunFault.TheVariants.{BadFile, Reading, Writing, Memory}
 
@@ -34,6 +34,7 @@ pub says_more :
     SaysOf fault Wide files name → SaysOf fault Form files name
 says_more (BadFile at Missing) Wide Form files name wider says = says
 says_more (BadFile at NotYet) Wide Form files name wider says = (says.0, denies_more Wide Form files name wider says.1)
+says_more (BadFile at (At kind line)) Wide Form files name wider says = says
 says_more Reading Wide Form files name wider says = tt
 says_more Writing Wide Form files name wider says = says
 says_more Memory Wide Form files name wider says = tt

@@ -4,3 +4,5 @@ pub mod OneRunLemmas
 pub mod WordsLemmas
 pub mod InputLemmas
 pub mod EndingLemmas
+pub mod ConsoleLemmas
+pub mod ShowLemmas

@@ -1,30 +1,60 @@
 -- What a run tells the console, a text of lines. The last one is that of the status.
 -- A run that is done tells before it how many frames and entries there were, and a bad file is named before it with its
--- fault and line 0. Want of memory tells nothing. "The console" in docs/formats.md.
-use Rattle.std.specs.Prelude.{◌≡◌, ◌⊎◌, ℕ, List, ◌∷◌, [], ◌++◌, codes}
+-- fault and its line. A session that was looked at has a line for each loop. Want of memory tells nothing. "The console" in docs/formats.md.
+use Rattle.std.specs.Prelude.{◌≡◌, ℕ, ◌+◌, List, ◌∷◌, [], ◌++◌, length, sum_by, codes}
 use Rattle.std.specs.Fmt.{decimal}
 use Rattle.std.specs.Io.KnownBytes.{Appends}
 use Rattle.sl_base.specs.Counting.{Rose}
+use Rattle.sl_commands.specs.declared.StripSettings.{StripSettings}
+use Rattle.sl_commands.specs.Settings.{LooperSettings}
 use Rattle.sl_ports.specs.Effects.{TellsTo}
 use Rattle.sl_ports.specs.Texts.{AppendsPrefix}
 use Rattle.sl_ports.specs.declared.sinks.Sink.{Ghosts as Sink}
-use Rattle.looper_cli.specs.Statuses.{status_line, fault_line}
+use Rattle.looper_cli.specs.Statuses.{status_line, fault_kind, fault_line}
 use Rattle.looper_cli.specs.declared.status.FileFault.{FileFault}
 use Rattle.looper_cli.specs.declared.status.RunFault.{RunFault}
 use Rattle.looper_cli.specs.declared.status.RunFault.TheVariants.{BadFile as IsBad, Reading, Writing, Memory as Lacking}
 use Rattle.looper_cli.specs.declared.status.Status.{Status}
 use Rattle.looper_cli.specs.declared.status.Status.TheVariants.{Done, Words, BadFile, ReadFault, WriteFault, Memory}
 
+-- a fault and its line
+abbrev pub fault_text : FileFault → List ℕ
+fault_text fault =
+    codes " fault " ++ (decimal (fault_kind fault) ++ (codes " line " ++ (decimal (fault_line fault) ++ (10 ∷ []))))
+
 -- of a bad file
 abbrev pub bad_file_text : List ℕ → FileFault → List ℕ
-bad_file_text name fault =
-    codes "file " ++ (name ++ (fault_line fault ++ status_line BadFile))
+bad_file_text name fault = codes "file " ++ (name ++ (fault_text fault ++ status_line BadFile))
 
 -- of a run that is done, with so many frames and entries
 abbrev pub done_text : ℕ → ℕ → List ℕ
 done_text frames entries =
     codes "frames " ++ (decimal frames ++ (codes " entries " ++ (decimal entries
     ++ (codes " replies 0 saves 0 refused 0" ++ (10 ∷ status_line Done)))))
+
+-- the line of a session's loop of this index
+abbrev pub loop_line : ℕ → StripSettings → List ℕ
+loop_line index s =
+    codes "loop " ++ (decimal index ++ (codes " " ++ (decimal s.length ++ (codes " " ++ (decimal s.cycle ++ (10 ∷ []))))))
+
+-- the lines of a session's loops, of which the first has this index, and then what follows
+abbrev pub loop_lines_then : ℕ → List StripSettings → List ℕ → List ℕ
+loop_lines_then index [] rest = rest
+loop_lines_then index (s ∷ ss) rest = loop_line index s ++ loop_lines_then (index + 1) ss rest
+
+-- how long a loop's list is
+abbrev pub length_in : StripSettings → ℕ
+length_in s = s.length
+
+-- of a session with these loops: how many there are, the frames of all of them together, and a line for each
+abbrev pub strips_text : List StripSettings → List ℕ
+strips_text strips =
+    codes "session loops " ++ (decimal (length strips) ++ (codes " frames " ++ (decimal (sum_by length_in strips)
+    ++ (10 ∷ loop_lines_then 0 strips (status_line Done)))))
+
+-- of a session that was looked at
+abbrev pub show_text : LooperSettings → List ℕ
+show_text settings = strips_text settings.strips
 
 -- what is told of a run that isn't done
 abbrev pub TellsFault : {C : Type 0} → Sink C → C → C → RunFault → Type 0

@@ -1,20 +1,23 @@
--- How a run of `render` ends, by its status.
--- - Done: OUT is the WAV text of what is heard of IN with JOURNAL's hits, every other file is as before, and the console
---   has the summary. No count rose.
--- - BadFile: IN, or else JOURNAL, is missing or in another form, and the console names it. No file changed.
+-- How a command ends, by its status.
+-- - Done: of `render`, OUT is the WAV text of what is heard of IN with JOURNAL's hits, every other file is as before, and the
+--   console has the summary. Of `show`, the console has the session's loops, and no file changed. No count rose.
+-- - BadFile: of `render`, IN, or else JOURNAL, is missing or in another form; of `show`, the console names the session's first bad
+--   file. No file changed.
 -- - ReadFault: the keeper's count of readings rose. No file changed.
--- - WriteFault: the keeper's count of writes rose and no file changed; or the console's count rose, and the files are
---   those of a run that is done.
+-- - WriteFault: of `render`, the keeper's count of writes rose and no file changed; or the console's count rose, and the files are
+--   those of a command that is done.
 -- - Memory: no file changed, and nothing was told.
 -- The console has the text of the status, or a prefix of it, and then only where its count rose.
 -- "Statuses" in docs/formats.md.
-use Rattle.std.specs.Prelude.{◌≡◌, ◌⊎◌, ℕ, Option, List, length, Result, Ok, Err}
+use Rattle.std.specs.Prelude.{◌≡◌, ◌⊎◌, ⊤, ℕ, Option, List, length, Result, Ok, Err}
 use Rattle.std.specs.String.{string_bytes}
 use Rattle.std.specs.declared.string.String.{String}
 use Rattle.std.specs.declared.alloc.Global.{Global}
 use Rattle.std.specs.Io.KnownBytes.{Appends}
 use Rattle.sl_base.specs.Sounds.{Sound}
 use Rattle.sl_base.specs.Counting.{Rose}
+use Rattle.sl_commands.specs.Settings.{LooperSettings}
+use Rattle.session_file.specs.Loading.{IsLoaded, FirstBadFile}
 use Rattle.sl_ports.specs.Effects.{TellsTo}
 use Rattle.sl_ports.specs.Files.{Files, put_told}
 use Rattle.sl_ports.specs.Texts.{AppendsPrefix}
@@ -23,12 +26,13 @@ use Rattle.sl_ports.specs.declared.sinks.Sink.{Ghosts as Sink}
 use Rattle.wav_pcm.specs.Mono16.{IsMono16}
 use Rattle.wav_pcm.specs.WavText.{wav_text}
 use Rattle.looper_rules.specs.OneLoop.{one_run}
-use Rattle.looper_cli.specs.Words.{FileNames}
+use Rattle.looper_cli.specs.Words.{FileNames, Asked, renders, shows}
 use Rattle.looper_cli.specs.FirstJournal.{IsFirstJournal}
 use Rattle.looper_cli.specs.Inputs.{Has, HasFault, IsInput, IsJournal}
-use Rattle.looper_cli.specs.Console.{bad_file_text, done_text}
+use Rattle.looper_cli.specs.Console.{bad_file_text, done_text, show_text}
 use Rattle.looper_cli.specs.Statuses.{status_line}
 use Rattle.looper_cli.specs.declared.status.FileFault.{FileFault}
+use Rattle.looper_cli.specs.declared.status.FileFault.TheVariants.{Missing, NotYet, At}
 use Rattle.looper_cli.specs.declared.status.RunFault.{RunFault}
 use Rattle.looper_cli.specs.declared.status.RunFault.TheVariants.{BadFile as IsBad, Reading, Writing, Memory as Lacking}
 use Rattle.looper_cli.specs.declared.status.Status.{Status}
@@ -91,27 +95,72 @@ FailsBy k names old new Reading = Rose (k.read_faults old) (k.read_faults new) �
 FailsBy k names old new Writing = FailsToWrite k names old new
 FailsBy k names old new Lacking = k.files new ≡ k.files old
 
--- what a run does to the keeper's files, by its answer: the summary, or a fault
+-- what a run of `render` does to the keeper's files, by its answer: the summary, or a fault
 abbrev pub Leaves : {P : Type 0} → Keeper P → FileNames → P → P → Result (String Global) RunFault → Type 0
 Leaves k names old new (Ok text) = Renders names (k.files old) (k.files new) (λ done. string_bytes text ≡ done) × StaysWhole k old new
 Leaves k names old new (Err fault) = FailsBy k names old new fault
 
+-- the session of this name is told
+pub record Shows (session : List ℕ) (files : Option Files) (Told : List ℕ → Type 0) : Type 0 where
+  pub settings : LooperSettings
+  pub lists : List (List Sound)
+  pub loaded : IsLoaded files session settings lists
+  pub text : Told (show_text settings)
+
+-- the first bad file of a session and its fault
+abbrev pub IsFirstBadOf : List ℕ → Option Files → List ℕ → FileFault → Type 0
+IsFirstBadOf session files name (At kind line) = FirstBadFile files session name kind line
+IsFirstBadOf session files name Missing = ⊥
+IsFirstBadOf session files name NotYet = ⊥
+
+-- what a look at a session that isn't done says of the files, by its fault; it never writes
+abbrev pub FailsToShow : {P : Type 0} → Keeper P → List ℕ → P → P → RunFault → Type 0
+FailsToShow k session old new (IsBad name fault) = IsFirstBadOf session (k.files old) name fault
+FailsToShow k session old new Reading = Rose (k.read_faults old) (k.read_faults new)
+FailsToShow k session old new Writing = ⊥
+FailsToShow k session old new Lacking = ⊤
+
+-- what a look at a session tells, by its answer: the session's text, or a fault
+abbrev pub LooksAt : {P : Type 0} → Keeper P → List ℕ → P → P → Result (String Global) RunFault → Type 0
+LooksAt k session old new (Ok text) = Shows session (k.files old) (λ done. string_bytes text ≡ done) × StaysWhole k old new
+LooksAt k session old new (Err fault) = FailsToShow k session old new fault
+
+-- what a command does to the keeper's files, by its answer
+abbrev pub Does : {P : Type 0} → Keeper P → Asked → P → P → Result (String Global) RunFault → Type 0
+Does k (renders names) old new result = Leaves k names old new result
+Does k (shows session) old new result = LooksAt k session old new result × (k.files new ≡ k.files old)
+
+-- a command that is done: the files that it leaves, and what it tells
+abbrev pub IsDone : Asked → Option Files → Option Files → (List ℕ → Type 0) → Type 0
+IsDone (renders names) before after Told = Renders names before after Told
+IsDone (shows session) before after Told = Shows session before Told × (after ≡ before)
+
+-- a command's first bad file and its fault
+abbrev pub IsBadFor : Asked → Option Files → List ℕ → FileFault → Type 0
+IsBadFor (renders names) files name fault = IsFirstBad names files name fault
+IsBadFor (shows session) files name fault = IsFirstBadOf session files name fault
+
 -- the first bad file is told so
-pub record NamesBad (names : FileNames) (files : Option Files) (Told : List ℕ → Type 0) : Type 0 where
+pub record NamesBad (asked : Asked) (files : Option Files) (Told : List ℕ → Type 0) : Type 0 where
   pub name : List ℕ
   pub fault : FileFault
-  pub first : IsFirstBad names files name fault
+  pub first : IsBadFor asked files name fault
   pub text : Told (bad_file_text name fault)
 
--- what holds where a run ends with a status
-abbrev pub Ends : {P C : Type 0} → Keeper P → Sink C → FileNames → P → P → C → C → Status → Type 0
-Ends k s names old new before after Done =
-    Renders names (k.files old) (k.files new) (Appends (s.held before) (s.held after)) × StaysWhole k old new × (s.faults after ≡ s.faults before)
-Ends k s names old new before after Words = ⊥
-Ends k s names old new before after BadFile = NamesBad names (k.files old) (TellsTo s before after) × (k.files new ≡ k.files old)
-Ends k s names old new before after ReadFault =
+-- a command couldn't write its file
+abbrev pub CannotWrite : {P : Type 0} → Keeper P → Asked → P → P → Type 0
+CannotWrite k (renders names) old new = FailsToWrite k names old new
+CannotWrite k (shows session) old new = ⊥
+
+-- what holds where a command ends with a status
+abbrev pub Ends : {P C : Type 0} → Keeper P → Sink C → Asked → P → P → C → C → Status → Type 0
+Ends k s asked old new before after Done =
+    IsDone asked (k.files old) (k.files new) (Appends (s.held before) (s.held after)) × StaysWhole k old new × (s.faults after ≡ s.faults before)
+Ends k s asked old new before after Words = ⊥
+Ends k s asked old new before after BadFile = NamesBad asked (k.files old) (TellsTo s before after) × (k.files new ≡ k.files old)
+Ends k s asked old new before after ReadFault =
     Rose (k.read_faults old) (k.read_faults new) × TellsTo s before after (status_line ReadFault) × (k.files new ≡ k.files old)
-Ends k s names old new before after WriteFault =
-    (FailsToWrite k names old new × TellsTo s before after (status_line WriteFault))
-    ⊎ (Rose (s.faults before) (s.faults after) × Renders names (k.files old) (k.files new) (AppendsPrefix (s.held before) (s.held after)))
-Ends k s names old new before after Memory = (k.files new ≡ k.files old) × (after ≡ before)
+Ends k s asked old new before after WriteFault =
+    (CannotWrite k asked old new × TellsTo s before after (status_line WriteFault))
+    ⊎ (Rose (s.faults before) (s.faults after) × IsDone asked (k.files old) (k.files new) (AppendsPrefix (s.held before) (s.held after)))
+Ends k s asked old new before after Memory = (k.files new ≡ k.files old) × (after ≡ before)

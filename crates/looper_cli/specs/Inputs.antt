@@ -12,7 +12,9 @@ use Rattle.wav_pcm.specs.Mono16.{IsMono16}
 use Rattle.looper_cli.specs.FirstJournal.{IsFirstJournal}
 use Rattle.looper_cli.specs.declared.first_journal.Hits.{Hits}
 use Rattle.looper_cli.specs.declared.status.FileFault.{FileFault}
-use Rattle.looper_cli.specs.declared.status.FileFault.TheVariants.{Missing, NotYet}
+use Rattle.looper_cli.specs.declared.status.FileFault.TheVariants.{Missing, NotYet, At}
+use Rattle.session_file.specs.declared.loading.LoadFault.{LoadFault}
+use Rattle.session_file.specs.declared.loading.LoadFault.TheVariants.{File as BadPart, Read as Unread, Memory as NoMemory}
 use Rattle.looper_cli.specs.declared.status.RunFault.{RunFault}
 use Rattle.looper_cli.specs.declared.status.RunFault.TheVariants.{BadFile, Reading, Writing, Memory}
 
@@ -45,6 +47,7 @@ Has Form (Some files) name = (bytes : List ℕ) × (files name ≡ Some bytes) �
 abbrev pub HasFault : FileFault → (List ℕ → Type 0) → Option Files → List ℕ → Type 0
 HasFault Missing Form files name = Holds files name None
 HasFault NotYet Form files name = Has (λ bytes. ¬ Form bytes) files name
+HasFault (At kind line) Form files name = ⊥
 
 -- what a fault of reading a file of this form says of it
 abbrev pub SaysOf : RunFault → (List ℕ → Type 0) → Option Files → List ℕ → Type 0
@@ -81,3 +84,9 @@ Passes (Bytes v) name result = result ≡ Ok v
 Passes Absent name result = result ≡ Err (BadFile name Missing)
 Passes Failed name result = result ≡ Err Reading
 Passes Lacking name result = result ≡ Err Memory
+
+-- why a session isn't loaded is handed on
+abbrev pub PassesLoad : LoadFault → RunFault → Type 0
+PassesLoad (BadPart name kind line) result = result ≡ BadFile name (At kind line)
+PassesLoad Unread result = result ≡ Reading
+PassesLoad NoMemory result = result ≡ Memory

@@ -4,7 +4,7 @@ use Rattle.std.specs.Prelude.{◌≡◌, ◌⊎◌, ℕ, List, [], ◌∷◌, �
 use Rattle.looper_cli.specs.declared.status.Status.{Status}
 use Rattle.looper_cli.specs.declared.status.Status.TheVariants.{Done, Words, BadFile, ReadFault, WriteFault, Memory}
 use Rattle.looper_cli.specs.declared.status.FileFault.{FileFault}
-use Rattle.looper_cli.specs.declared.status.FileFault.TheVariants.{Missing, NotYet}
+use Rattle.looper_cli.specs.declared.status.FileFault.TheVariants.{Missing, NotYet, At}
 use Rattle.looper_cli.specs.declared.status.RunFault.{RunFault}
 use Rattle.looper_cli.specs.declared.status.RunFault.TheVariants.{BadFile as IsBad, Reading, Writing, Memory as Lacking}
 
@@ -26,10 +26,16 @@ status_line ReadFault = codes "status 4" ++ (10 ∷ [])
 status_line WriteFault = codes "status 5" ++ (10 ∷ [])
 status_line Memory = codes "status 8" ++ (10 ∷ [])
 
--- the number of a fault of a file, and the line that it is on
-abbrev pub fault_line : FileFault → List ℕ
-fault_line Missing = codes " fault 0 line 0" ++ (10 ∷ [])
-fault_line NotYet = codes " fault 99 line 0" ++ (10 ∷ [])
+-- the number of a fault of a file
+abbrev pub fault_kind : FileFault → ℕ
+fault_kind Missing = 0
+fault_kind NotYet = 99
+fault_kind (At kind line) = kind
+
+-- the line that it is on
+abbrev pub fault_line : FileFault → ℕ
+fault_line (At kind line) = line
+fault_line _ = 0
 
 -- the status of a run that isn't done for this
 abbrev pub status_of : RunFault → Status

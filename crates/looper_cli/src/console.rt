@@ -1,8 +1,9 @@
 //! What a run tells the console. None of these calls takes memory.
 
-ghost use Rattle.std.specs.Prelude.{◌≡◌, List, ℕ};
+ghost use Rattle.std.specs.Prelude.{◌≡◌, ◌≤◌, ◌<◌, ◌+◌, [], ◌∷◌, ◌++◌, length};
+ghost use Rattle.std.specs.Fmt.{decimal};
 ghost use Rattle.sl_ports.specs.Effects.{TellsTo};
-ghost use Rattle.looper_cli.specs.Console.{bad_file_text, TellsFault, TellsDone};
+ghost use Rattle.looper_cli.specs.Console.{fault_text, bad_file_text, TellsFault, TellsDone};
 ghost use Rattle.looper_cli.specs.Statuses.{status_of};
 
 use crate::status::{FileFault, RunFault, Status};
@@ -17,6 +18,45 @@ pub fn tell<C: Sink>(console: &mut C, text: &str)
     let _ = console.write_all(text.as_bytes());
 }
 
+/// Puts the digit behind the text.
+fn push_digit(text: &mut ArrayString<128>, digit: u8)
+    requires digit { digit < 10 }
+    requires room { length text.old.bytes + 1 ≤ 128 }
+    ensures bytes { text.new.bytes ≡ text.old.bytes ++ (48 + digit) ∷ [] }
+    ensures len { length text.new.bytes ≡ length text.old.bytes + 1 }
+{
+    text.push((b'0' + digit) as char);
+}
+
+/// Puts the digits of a number behind the text.
+#[tactic(auto, using(crate::proofs::ConsoleLemmas::one_digit, crate::proofs::ConsoleLemmas::more_digits, crate::proofs::ConsoleLemmas::one_has_room, crate::proofs::ConsoleLemmas::more_has_room))]
+fn push_number(text: &mut ArrayString<128>, number: u32)
+    requires { length text.old.bytes + length (decimal number) ≤ 128 }
+    ensures bytes { text.new.bytes ≡ text.old.bytes ++ decimal number }
+    ensures len { length text.new.bytes ≡ length text.old.bytes + length (decimal number) }
+{
+    if number < 10 {
+        push_digit(text, number as u8);
+    } else {
+        push_number(text, number / 10);
+        push_digit(text, (number % 10) as u8);
+    }
+}
+
+/// Puts a fault and its line behind the text.
+#[tactic(auto, using(crate::proofs::ConsoleLemmas::short_kind, crate::proofs::ConsoleLemmas::short_line))]
+fn push_fault(text: &mut ArrayString<128>, fault: FileFault)
+    requires { length text.old.bytes + 32 ≤ 128 }
+    ensures bytes { text.new.bytes ≡ text.old.bytes ++ fault_text fault }
+    ensures len { length text.new.bytes ≤ length text.old.bytes + 32 }
+{
+    text.push_str(" fault ");
+    push_number(text, fault.kind() as u32);
+    text.push_str(" line ");
+    push_number(text, fault.line());
+    text.push_str("\n");
+}
+
 /// Tells of a bad file.
 fn tell_bad_file<C: Sink>(console: &mut C, name: &Name, fault: FileFault)
     ensures { TellsTo C.Sink console.old console.new (bad_file_text name.now fault) }
@@ -24,7 +64,7 @@ fn tell_bad_file<C: Sink>(console: &mut C, name: &Name, fault: FileFault)
     let mut text: ArrayString<128> = ArrayString::new();
     text.push_str("file ");
     text.push_str(name.as_str());
-    text.push_str(fault.line());
+    push_fault(&mut text, fault);
     text.push_str(Status::BadFile.line());
     tell(console, text.as_str());
 }

@@ -6,6 +6,7 @@
 //!   or the one fault that ended it. So want of memory and a bad file leave every file as it was.
 //! - What is heard is the single loop of `looper_rules`, run over IN's bytes in place, period by period.
 //! - The console is told last, by calls that take no memory.
+//! - `show` loads a session, and gives the text that tells of its loops. It writes nothing.
 //!
 //! Begin with `top`, then `render` and `one_run`; `words`, `files` and `first_journal` read what a run is given, `status` has
 //! the statuses and faults with their lines, and `single_loop` the loop that is run. The forms
@@ -19,6 +20,7 @@ mod files;
 mod first_journal;
 mod one_run;
 mod render;
+mod show;
 mod single_loop;
 mod status;
 mod top;
@@ -27,7 +29,7 @@ mod words;
 pub use first_journal::{Hits, read_first_journal};
 pub use status::{FileFault, Status};
 pub use top::plain_run;
-pub use words::{Render, Words, WordsFault, words_of};
+pub use words::{Render, Show, Words, WordsFault, words_of};
 
 #[cfg(test)]
 mod tests;

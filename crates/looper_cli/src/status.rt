@@ -1,7 +1,7 @@
 //! How a run ends, and why it isn't done.
 
 ghost use Rattle.std.specs.Prelude.{◌≡◌};
-ghost use Rattle.looper_cli.specs.Statuses.{status_number, status_line, status_of, fault_line};
+ghost use Rattle.looper_cli.specs.Statuses.{status_number, status_line, status_of, fault_kind, fault_line};
 
 use sl_base::Name;
 
@@ -29,6 +29,8 @@ pub enum FileFault {
     Missing,
     /// It isn't in the one form that is read so far.
     NotYet,
+    /// The fault with this number, at this line of a session's text, 0 for none.
+    At(u8, u32),
 }
 
 /// Why a run isn't done.
@@ -75,13 +77,24 @@ impl Status {
 }
 
 impl FileFault {
-    /// The number of the fault and the line that it is on, behind the name of the file.
-    pub fn line(self) -> &'static str
-        ensures { result.now ≡ fault_line self }
+    /// The number of the fault.
+    pub fn kind(self) -> u8
+        ensures { result ≡ fault_kind self }
     {
         match self {
-            FileFault::Missing => " fault 0 line 0\n",
-            FileFault::NotYet => " fault 99 line 0\n",
+            FileFault::Missing => 0,
+            FileFault::NotYet => 99,
+            FileFault::At(kind, _) => kind,
+        }
+    }
+
+    /// The line that it is on.
+    pub fn line(self) -> u32
+        ensures { result ≡ fault_line self }
+    {
+        match self {
+            FileFault::At(_, line) => line,
+            _ => 0,
         }
     }
 }

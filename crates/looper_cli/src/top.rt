@@ -6,15 +6,16 @@ ghost use Rattle.std.specs.String.{string_bytes};
 ghost use Rattle.sl_base.specs.Counting.{Rose};
 ghost use Rattle.sl_ports.specs.Effects.{TellsTo};
 ghost use Rattle.sl_ports.specs.Texts.{AppendsPrefix};
-ghost use Rattle.looper_cli.specs.Named.{names_of_words};
-ghost use Rattle.looper_cli.specs.Endings.{Ends, Leaves, StaysWhole, Renders, NamesBad, IsFirstBad, FailsToWrite};
+ghost use Rattle.looper_cli.specs.Named.{asked_by};
+ghost use Rattle.looper_cli.specs.Endings.{Ends, Does, StaysWhole, IsDone, NamesBad, IsBadFor, CannotWrite};
 ghost use Rattle.looper_cli.specs.Statuses.{IsStatusNumber, status_line};
-ghost use Rattle.looper_cli.specs.Words.{names_in};
+ghost use Rattle.looper_cli.specs.Words.{asked_in};
 ghost use Rattle.looper_cli.specs.declared.status.FileFault.{FileFault};
 ghost use Rattle.looper_cli.specs.declared.status.Status.TheVariants.{Words as Other, ReadFault, WriteFault};
 
 use crate::console::{tell, tell_done, tell_fault};
 use crate::render::render;
+use crate::show::show;
 use crate::status::{RunFault, Status};
 use crate::words::{Words, words_of};
 use sl_ports::{Keeper, Sink};
@@ -22,10 +23,11 @@ use std::alloc::Global;
 
 /// Does what the words ask for, and gives the text that tells of it.
 fn run<P: Keeper>(alloc: Global, keeper: &mut P, words: &Words) -> Result<String, RunFault>
-    ensures { Leaves P.Keeper (names_of_words words.now) keeper.old keeper.new result }
+    ensures { Does P.Keeper (asked_by words.now) keeper.old keeper.new result }
 {
     match words {
         Words::Render(files) => render(alloc, keeper, files),
+        Words::Show(session) => show(alloc, keeper, session),
     }
 }
 
@@ -36,7 +38,7 @@ fn run_and_tell<P: Keeper, C: Sink>(
     keeper: &mut P,
     console: &mut C,
 ) -> Status
-    ensures { Ends P.Keeper C.Sink (names_of_words words.now)
+    ensures { Ends P.Keeper C.Sink (asked_by words.now)
         keeper.old keeper.new console.old console.new result }
 {
     match run(alloc, keeper, words) {
@@ -48,7 +50,7 @@ fn run_and_tell<P: Keeper, C: Sink>(
 /// Runs the words, over files and a console, and gives the exit status.
 ///
 /// `render IN JOURNAL OUT` plays the WAV file IN into the loop with the commands of JOURNAL, and writes what is heard
-/// to the WAV file OUT. OUT may be one of the others. Statuses: 0 done, 2 other words, 3 a bad file, 4 a reading
+/// to the WAV file OUT. OUT may be one of the others. `show NAME` tells a session's loops. Statuses: 0 done, 2 other words, 3 a bad file, 4 a reading
 /// failed, 5 a write failed, 8 out of memory.
 pub fn plain_run<P: Keeper, C: Sink>(
     alloc: Global,
@@ -59,32 +61,32 @@ pub fn plain_run<P: Keeper, C: Sink>(
     ensures statuses { IsStatusNumber result }
 
     // 2 comes exactly where the words aren't in the grammar.
-    ensures words { (result ≡ 2) ↔ (names_in (map string_bytes words.now) ≡ None) }
+    ensures words { (result ≡ 2) ↔ (asked_in (map string_bytes words.now) ≡ None) }
     ensures words_text { result ≡ 2 → TellsTo C.Sink console.old console.new (status_line Other) }
 
-    // At 0, OUT is the WAV text of the run over what IN and JOURNAL held, and no count rose.
-    ensures done { result ≡ 0 → IfSome (names_in (map string_bytes words.now)) (λ names.
-        Renders names (P.files keeper.old) (P.files keeper.new)
+    // At 0, OUT is the WAV text of the run over what IN and JOURNAL held, or the session's loops are told; no count rose.
+    ensures done { result ≡ 0 → IfSome (asked_in (map string_bytes words.now)) (λ asked.
+        IsDone asked (P.files keeper.old) (P.files keeper.new)
         (Appends (C.held console.old) (C.held console.new))) }
     ensures counts { result ≡ 0 →
         StaysWhole P.Keeper keeper.old keeper.new × (C.faults console.new ≡ C.faults console.old) }
 
-    // 3 comes exactly where IN, or else JOURNAL, is missing or in another form, unless 4 or 8 does.
-    ensures bad_file { result ≡ 3 → IfSome (names_in (map string_bytes words.now)) (λ names.
-        NamesBad names (P.files keeper.old) (TellsTo C.Sink console.old console.new)) }
-    ensures bad_file_always { IfSome (names_in (map string_bytes words.now)) (λ names.
+    // 3 comes exactly where IN, or else JOURNAL, is missing or in another form, or the session has a bad file, unless 4 or 8 does.
+    ensures bad_file { result ≡ 3 → IfSome (asked_in (map string_bytes words.now)) (λ asked.
+        NamesBad asked (P.files keeper.old) (TellsTo C.Sink console.old console.new)) }
+    ensures bad_file_always { IfSome (asked_in (map string_bytes words.now)) (λ asked.
         IfSome (P.files keeper.old) (λ files.
-        (name : List ℕ) (fault : FileFault) → IsFirstBad names (Some files) name fault →
+        (name : List ℕ) (fault : FileFault) → IsBadFor asked (Some files) name fault →
         (result ≡ 3) ⊎ (result ≡ 4) ⊎ (result ≡ 8))) }
 
     // 4 comes only where the count of readings rose, 5 only where the count of writes or the console's did.
     ensures read_fault { result ≡ 4 → Rose (P.read_faults keeper.old) (P.read_faults keeper.new)
         × TellsTo C.Sink console.old console.new (status_line ReadFault) }
-    ensures write_fault { result ≡ 5 → IfSome (names_in (map string_bytes words.now)) (λ names.
-        (FailsToWrite P.Keeper names keeper.old keeper.new
+    ensures write_fault { result ≡ 5 → IfSome (asked_in (map string_bytes words.now)) (λ asked.
+        (CannotWrite P.Keeper asked keeper.old keeper.new
         × TellsTo C.Sink console.old console.new (status_line WriteFault))
         ⊎ (Rose (C.faults console.old) (C.faults console.new)
-        × Renders names (P.files keeper.old) (P.files keeper.new)
+        × IsDone asked (P.files keeper.old) (P.files keeper.new)
         (AppendsPrefix (C.held console.old) (C.held console.new)))) }
 
     // Files change at 0 and 5 alone, and 8 tells nothing.

@@ -40,11 +40,11 @@ pub fn the_settings_of_a_looper_lie_in_their_ranges()
 /// for as many saves. Behind them so many whole saves have come, and none has begun.
 pub fn the_blocks_of_saves_may_follow()
     ensures follow { (blocks : List Block) → (first bound : ℕ) → (saves : List Save) → AreSent first saves →
-        place_of blocks ≡ Some (record { saves = first; begun = None }) → first + length saves ≤ bound →
+        place_of blocks ≡ Some (record { saves = first; underway = None }) → first + length saves ≤ bound →
         IsTrue (may_all_follow blocks (blocks_for_all saves) bound) }
     ensures place { (blocks : List Block) → (first : ℕ) → (saves : List Save) → AreSent first saves →
-        place_of blocks ≡ Some (record { saves = first; begun = None }) →
-        place_of (blocks ++ blocks_for_all saves) ≡ Some (record { saves = first + length saves; begun = None }) }
+        place_of blocks ≡ Some (record { saves = first; underway = None }) →
+        place_of (blocks ++ blocks_for_all saves) ≡ Some (record { saves = first + length saves; underway = None }) }
 {}
 
 /// A list has as many parts as its length divided by 256, rounded up, and so a save has at most 16 lists of 65536 parts, a head

@@ -1,4 +1,5 @@
 -- While bindings are read line by line, a line is taken behind the lines so far, or it is wrong there.
+-- "Bindings" in docs/formats.md.
 use Rattle.std.specs.Prelude.{ℕ, ◌≡◌, List, [], ◌∷◌, ◌++◌, ⊤}
 use Rattle.midi_bindings.specs.declared.binding.Binding.{Binding}
 use Rattle.sl_commands.specs.declared.fault.TextKind.{TextKind}

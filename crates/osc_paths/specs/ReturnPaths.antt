@@ -1,4 +1,5 @@
 -- A return path begins with `/` and has 1 to 63 bytes.
+-- "OSC paths" in docs/formats.md.
 use Rattle.std.specs.Prelude.{ℕ, Bool, false, ◌&&◌, ◌==◌, nat_le, List, [], ◌∷◌, length}
 
 -- the bytes begin with `/`

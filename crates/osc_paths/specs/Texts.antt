@@ -1,4 +1,5 @@
 -- Parts of an address: what stands before the first of a byte and what behind it, and numbers in their one spelling.
+-- "OSC paths" in docs/formats.md.
 use Rattle.std.specs.Prelude.{ℕ, ◌==◌, nat_le, if◌then◌else◌, List, take, drop, Option, Some, None, option_map, position}
 use Rattle.std.specs.Str.Parse.{digits_value}
 use Rattle.text_lines.specs.Numerals.{is_numeral}

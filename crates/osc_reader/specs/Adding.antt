@@ -1,4 +1,5 @@
 -- Messages are added to a list as they are read.
+-- "OSC packets" in docs/formats.md.
 use Rattle.std.specs.Prelude.{◌≡◌, List, ◌++◌, Result, Ok, Err}
 use Rattle.osc_reader.specs.declared.fault.PacketFault.{PacketFault}
 use Rattle.osc_reader.specs.declared.message.Message.{Message}

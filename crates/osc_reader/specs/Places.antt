@@ -1,5 +1,6 @@
 -- A packet is read from left to right. The first fault counts, and stands at the offset of the field that has it.
 -- Want of memory is no fault of the packet.
+-- "OSC packets" in docs/formats.md.
 use Rattle.std.specs.Prelude.{◌≡◌, ◌⊎◌, ℕ, ◌-◌, List, length, Result, Ok, Err}
 use Rattle.osc_reader.specs.declared.fault.PacketKind.{PacketKind}
 use Rattle.osc_reader.specs.declared.fault.PacketKind.TheVariants as kinds

@@ -1,4 +1,5 @@
 -- Bytes are put behind others, as far as a message may be long.
+-- "OSC packets" in docs/formats.md.
 use Rattle.std.specs.Prelude.{◌≡◌, ◌<◌, ◌+◌, ℕ, Bool, true, false, List, ◌++◌, length}
 
 -- the greatest number of bytes of a message that is written

@@ -5,3 +5,4 @@ pub mod BackwardLemmas
 pub mod SplicingLemmas
 pub mod RunLemmas
 pub mod RepeatLemmas
+pub mod BorderLemmas

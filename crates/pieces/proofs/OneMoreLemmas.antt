@@ -7,7 +7,7 @@ use Rattle.std.proofs.Math.Seq.{take-append_seam, drop-append_seam}
 use Rattle.std.proofs.lemmas.List.FromFn.{map-range_with_len_more}
 use Rattle.std.proofs.lemmas.List.{append-nil}
 use Rattle.std.specs.List.{remove}
-use Rattle.pieces.proofs.SplittingLemmas.{length-split, length-piece, total-behind, before-past, behind-past, total-before, total-append, split_same, take-whole, len-within, hint-end, get-more}
+use Rattle.pieces.proofs.SplittingLemmas.{length-split, length-piece, total-behind, before-past, behind-past, total-before, total-append, split_same, before_same, take-whole, len-within, hint-end, get-more}
 use Rattle.pieces.proofs.AddressLemmas.{addresses-append, addresses-before, addresses-behind, set-by-parts, length-addresses, length-behind, length-before}
 use Rattle.pieces.specs.Pieces.{Piece, Solid, address_in, addresses, piece_addresses, total}
 use Rattle.pieces.specs.Splitting.{IsHint, back, before, behind, front, offset, pieces_before, split}
@@ -381,6 +381,18 @@ split-total place ps xs e le =
 pub out-within : (place i : ℕ) (ps xs : List Piece) → xs ≡ before place ps ++ behind 1 (behind place ps) → i ≡ length (before place ps) → i ≤ length xs
 out-within place i ps xs e n = let l = length-append (before place ps) (behind 1 (behind place ps)) in rw (e, n) (omega (arith, l))
 
+-- the first address of a piece taken out
+pub solid-drop : (i : ℕ) (ps : List Piece) → Solid ps → Solid (drop i ps)
+solid-drop zero ps s = s
+solid-drop (suc i) [] s = s
+solid-drop (suc i) (p ∷ ps) s = solid-drop i ps s.1
+
+out-parts : (b c ys : List Piece) (i : ℕ) → ys ≡ b ++ c → i ≡ length b → take i ys ++ behind 1 (drop i ys) ≡ b ++ behind 1 c
+out-parts b c ys i e n = rw (e, n, take-append_seam b c, drop-append_seam b c) refl
+
+pub out-first : (place i : ℕ) (ps xs : List Piece) → offset place ps ≡ 0 → i ≡ pieces_before place ps → xs ≡ take i ps ++ behind 1 (drop i ps) → xs ≡ before place ps ++ behind 1 (behind place ps)
+out-first place i ps xs e n x = rw x (out-parts (before place ps) (behind place ps) ps i (sym (split_same place ps e)) (rw (before_same place ps e) n))
+
 pub behind-none : (ys : List Piece) → Solid ys → behind 0 ys ≡ ys
 behind-none [] s = refl
 behind-none (y ∷ ys) s = grind (arith, s.0)
@@ -431,7 +443,7 @@ joined-hint a i n ps xs e f g =
 pub length-addresses-at : (ps : List Piece) (place : ℕ) → place < length (addresses ps) → place < total ps
 length-addresses-at ps place lt = let n = length-addresses ps in omega (arith, n, lt)
 
-pub ruleset overs = (out-total, split-total, out-within, out-last, inserted-steps, append-steps, overwritten-steps, overwritten-index, overwritten-drop)
+pub ruleset overs = (out-total, split-total, out-within, out-first, out-last, solid-drop, inserted-steps, append-steps, overwritten-steps, overwritten-index, overwritten-drop)
 
 pub ruleset shortens = (shorten-one, shorten-more)
 

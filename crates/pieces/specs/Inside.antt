@@ -1,5 +1,6 @@
 -- What a list of pieces is seen as, of its inside.
 -- A hint says where some piece begins. It changes nothing that is seen, and any right one will do: searches begin there.
+-- "Pieces" in docs/rules.md.
 use Rattle.std.specs.Prelude.{◌≡◌, ◌≤◌, ◌+◌, length}
 use Rattle.std.specs.Vec.{vec_capacity}
 use Rattle.pieces.specs.Pieces.{Pieces, Solid, total}

@@ -1,6 +1,6 @@
 //! Pieces in a vector: one address more.
 
-ghost use Rattle.std.specs.Prelude.{◌≡◌, ◌≤◌, ◌<◌, ◌+◌, ◌++◌, ◌^◌, drop, length, take};
+ghost use Rattle.std.specs.Prelude.{◌≡◌, ◌≤◌, ◌<◌, ◌+◌, ◌++◌, ◌^◌, drop, length, take, IsTrue, IsFalse};
 ghost use Rattle.std.specs.Vec.{vec_capacity, vec_len};
 ghost use Rattle.pieces.specs.OneMore.{inserted, joined, joined_before, overwritten, overwritten_backward};
 ghost use Rattle.pieces.specs.Pieces.{Solid, total as total_of};
@@ -42,8 +42,12 @@ fn take_out(pieces: &mut Vec<Piece>, hint: Hint, place: u32) -> usize
 {
     let spot = find_from(pieces, hint, place);
     let into = place - spot.begin;
+    if into == 0 {
+        shorten(pieces, spot.piece);
+        return spot.piece;
+    }
     let piece = pieces[spot.piece];
-    if into > 0 && into == piece.len() - 1 {
+    if into == piece.len() - 1 {
         pieces[spot.piece] = piece.front(into);
         return spot.piece + 1;
     }
@@ -73,6 +77,27 @@ fn join(pieces: &mut Vec<Piece>, index: usize, address: u32) -> usize
     index + 1
 }
 
+/// Where the piece before an index goes on to an address, that piece grows. Else nothing changes.
+#[tactic(auto, using(crate::proofs::OneMoreLemmas::joins, crate::proofs::BorderLemmas::grows_on))]
+fn grow(pieces: &mut Vec<Piece>, index: usize, address: u32) -> bool
+    requires index { index ≤ length pieces.old.items }
+    requires short { total_of pieces.old.items + 1 < 2 ^ 32 }
+    ensures unchanged { IsFalse result → pieces.new ≡ pieces.old }
+    ensures items { IsTrue result → pieces.new.items ≡ joined address (take index pieces.old.items) ++ drop index pieces.old.items }
+    ensures index { IsTrue result → index ≡ length (joined address (take index pieces.old.items)) }
+    ensures capacity { vec_capacity pieces.old ≤ vec_capacity pieces.new }
+{
+    if index == 0 {
+        return false;
+    }
+    let last = pieces[index - 1];
+    if !last.grows(address) {
+        return false;
+    }
+    pieces[index - 1] = last.grown();
+    true
+}
+
 /// Puts an address before the pieces from an index on.
 #[tactic(auto, using(crate::proofs::BackwardLemmas::joins))]
 fn join_before(pieces: &mut Vec<Piece>, index: usize, address: u32)
@@ -92,9 +117,62 @@ fn join_before(pieces: &mut Vec<Piece>, index: usize, address: u32)
     put(pieces, index, Piece::one(address));
 }
 
+/// Where the piece that begins at a place has more addresses than that there, and the one before it goes on to the address:
+/// moves the border between them by one. Else nothing changes.
+#[tactic(auto, using(crate::proofs::BorderLemmas::over))]
+fn move_border(pieces: &mut Vec<Piece>, hint: Hint, place: u32, address: u32) -> bool
+    requires hint { IsHint pieces.old.items hint.piece hint.begin }
+    requires begin { hint.begin ≡ place }
+    requires short { total_of pieces.old.items < 2 ^ 32 }
+    requires solid { Solid pieces.old.items }
+    ensures unchanged { IsFalse result → pieces.new ≡ pieces.old }
+    ensures items { IsTrue result → pieces.new.items ≡ overwritten place address pieces.old.items }
+    ensures index { IsTrue result → hint.piece ≡ length (joined address (before place pieces.old.items)) }
+    ensures capacity { vec_capacity pieces.old ≤ vec_capacity pieces.new }
+{
+    let index = hint.piece;
+    if index == 0 || index == pieces.len() {
+        return false;
+    }
+    let last = pieces[index - 1];
+    let next = pieces[index];
+    if next.len() == 1 || !last.grows(address) {
+        return false;
+    }
+    pieces[index - 1] = last.grown();
+    pieces[index] = next.back(1);
+    true
+}
+
+/// The same backward: the piece that ends at a place loses that address, and the one behind it grows in front.
+#[tactic(auto, using(crate::proofs::BorderLemmas::down))]
+fn move_border_down(pieces: &mut Vec<Piece>, hint: Hint, place: u32, address: u32) -> bool
+    requires hint { IsHint pieces.old.items hint.piece hint.begin }
+    requires begin { hint.begin ≡ place + 1 }
+    requires short { total_of pieces.old.items < 2 ^ 32 }
+    requires solid { Solid pieces.old.items }
+    ensures unchanged { IsFalse result → pieces.new ≡ pieces.old }
+    ensures items { IsTrue result → pieces.new.items ≡ overwritten_backward place address pieces.old.items }
+    ensures index { IsTrue result → hint.piece ≡ length (before place pieces.old.items) }
+    ensures capacity { vec_capacity pieces.old ≤ vec_capacity pieces.new }
+{
+    let index = hint.piece;
+    if index == 0 || index == pieces.len() {
+        return false;
+    }
+    let last = pieces[index - 1];
+    let next = pieces[index];
+    if last.len() == 1 || !next.grows_down(address) {
+        return false;
+    }
+    pieces[index - 1] = last.front(last.len() - 1);
+    pieces[index] = next.grown_down();
+    true
+}
+
 /// Puts an address in place of that at a place, and gives the number of pieces up to it.
 #[tactic(auto, using(crate::proofs::SplittingLemmas::splits, crate::proofs::OneMoreLemmas::overs))]
-pub(crate) fn overwrite_vec(pieces: &mut Vec<Piece>, hint: Hint, place: u32, address: u32) -> usize
+fn replace_one(pieces: &mut Vec<Piece>, hint: Hint, place: u32, address: u32) -> usize
     requires hint { IsHint pieces.old.items hint.piece hint.begin }
     requires place { place < total_of pieces.old.items }
     requires short { total_of pieces.old.items < 2 ^ 32 }
@@ -108,8 +186,44 @@ pub(crate) fn overwrite_vec(pieces: &mut Vec<Piece>, hint: Hint, place: u32, add
     join(pieces, index, address)
 }
 
+/// The same. In a run that goes on, a border moves and nothing is sought.
+pub(crate) fn overwrite_vec(pieces: &mut Vec<Piece>, hint: Hint, place: u32, address: u32) -> usize
+    requires hint { IsHint pieces.old.items hint.piece hint.begin }
+    requires place { place < total_of pieces.old.items }
+    requires short { total_of pieces.old.items < 2 ^ 32 }
+    requires solid { Solid pieces.old.items }
+    requires room { vec_len pieces.old + 2 < vec_capacity pieces.old }
+    ensures items { pieces.new.items ≡ overwritten place address pieces.old.items }
+    ensures index { result ≡ length (joined address (before place pieces.old.items)) }
+    ensures capacity { vec_capacity pieces.old ≤ vec_capacity pieces.new }
+{
+    if hint.begin != place {
+        return replace_one(pieces, hint, place, address);
+    }
+    if move_border(pieces, hint, place, address) {
+        return hint.piece;
+    }
+    replace_one(pieces, hint, place, address)
+}
+
 /// Puts an address in place of that at a place, backward, and gives the number of pieces before it.
 #[tactic(auto, using(crate::proofs::SplittingLemmas::splits, crate::proofs::BackwardLemmas::steps))]
+fn replace_one_backward(pieces: &mut Vec<Piece>, hint: Hint, place: u32, address: u32) -> usize
+    requires hint { IsHint pieces.old.items hint.piece hint.begin }
+    requires place { place < total_of pieces.old.items }
+    requires short { total_of pieces.old.items < 2 ^ 32 }
+    requires solid { Solid pieces.old.items }
+    requires room { vec_len pieces.old + 2 < vec_capacity pieces.old }
+    ensures items { pieces.new.items ≡ overwritten_backward place address pieces.old.items }
+    ensures index { result ≡ length (before place pieces.old.items) }
+    ensures capacity { vec_capacity pieces.old ≤ vec_capacity pieces.new }
+{
+    let index = take_out(pieces, hint, place);
+    join_before(pieces, index, address);
+    index
+}
+
+/// The same. In a run that goes on, a border moves and nothing is sought.
 pub(crate) fn overwrite_vec_backward(
     pieces: &mut Vec<Piece>,
     hint: Hint,
@@ -125,14 +239,18 @@ pub(crate) fn overwrite_vec_backward(
     ensures index { result ≡ length (before place pieces.old.items) }
     ensures capacity { vec_capacity pieces.old ≤ vec_capacity pieces.new }
 {
-    let index = take_out(pieces, hint, place);
-    join_before(pieces, index, address);
-    index
+    if hint.begin != place + 1 {
+        return replace_one_backward(pieces, hint, place, address);
+    }
+    if move_border_down(pieces, hint, place, address) {
+        return hint.piece;
+    }
+    replace_one_backward(pieces, hint, place, address)
 }
 
 /// Puts an address before that at a place, and gives the number of pieces up to it.
 #[tactic(auto, using(crate::proofs::SplittingLemmas::splits, crate::proofs::OneMoreLemmas::overs))]
-pub(crate) fn insert_vec(pieces: &mut Vec<Piece>, hint: Hint, place: u32, address: u32) -> usize
+fn insert_one(pieces: &mut Vec<Piece>, hint: Hint, place: u32, address: u32) -> usize
     requires hint { IsHint pieces.old.items hint.piece hint.begin }
     requires place { place ≤ total_of pieces.old.items }
     requires short { total_of pieces.old.items + 1 < 2 ^ 32 }
@@ -145,8 +263,29 @@ pub(crate) fn insert_vec(pieces: &mut Vec<Piece>, hint: Hint, place: u32, addres
     join(pieces, index, address)
 }
 
+/// The same. In a run that goes on, a piece grows and nothing is sought.
+#[tactic(auto, using(crate::proofs::BorderLemmas::grown_at))]
+pub(crate) fn insert_vec(pieces: &mut Vec<Piece>, hint: Hint, place: u32, address: u32) -> usize
+    requires hint { IsHint pieces.old.items hint.piece hint.begin }
+    requires place { place ≤ total_of pieces.old.items }
+    requires short { total_of pieces.old.items + 1 < 2 ^ 32 }
+    requires solid { Solid pieces.old.items }
+    requires room { vec_len pieces.old + 2 < vec_capacity pieces.old }
+    ensures items { pieces.new.items ≡ inserted place address pieces.old.items }
+    ensures index { result ≡ length (joined address (before place pieces.old.items)) }
+    ensures capacity { vec_capacity pieces.old ≤ vec_capacity pieces.new }
+{
+    if hint.begin != place {
+        return insert_one(pieces, hint, place, address);
+    }
+    if grow(pieces, hint.piece, address) {
+        return hint.piece;
+    }
+    insert_one(pieces, hint, place, address)
+}
+
 /// Puts an address behind all others, and gives the number of pieces.
-#[tactic(auto, using(crate::proofs::OneMoreLemmas::overs))]
+#[tactic(auto, using(crate::proofs::OneMoreLemmas::overs, crate::proofs::BorderLemmas::grown_at))]
 pub(crate) fn append_vec(pieces: &mut Vec<Piece>, address: u32) -> usize
     requires short { total_of pieces.old.items + 1 < 2 ^ 32 }
     requires room { vec_len pieces.old + 2 < vec_capacity pieces.old }
@@ -155,5 +294,8 @@ pub(crate) fn append_vec(pieces: &mut Vec<Piece>, address: u32) -> usize
     ensures capacity { vec_capacity pieces.old ≤ vec_capacity pieces.new }
 {
     let index = pieces.len();
+    if grow(pieces, index, address) {
+        return index;
+    }
     join(pieces, index, address)
 }

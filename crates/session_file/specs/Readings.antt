@@ -1,4 +1,5 @@
 -- While a session is read, the lines so far were read off the front of the bytes, and the rest is left.
+-- "Sessions" in docs/formats.md.
 use Rattle.std.specs.Prelude.{ℕ, ◌≤◌, List, ⊤}
 use Rattle.sl_base.specs.Limits.{max_list_frames, max_rate, max_loops}
 use Rattle.sl_commands.specs.declared.fault.ReadText.{ReadText}

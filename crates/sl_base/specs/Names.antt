@@ -1,4 +1,5 @@
 -- A name of a file has 1 to 64 bytes of A-Z, a-z, 0-9, '.', '_' and '-', the first not '.'.
+-- "Names of files" in docs/formats.md.
 use Rattle.std.specs.Prelude.{ℕ, Bool, true, false, ◌&&◌, ◌||◌, not, List, [], ◌∷◌, length, nat_le, ◌==◌, IsTrue}
 
 -- the byte lies from one byte to another

@@ -1,6 +1,7 @@
 -- A frame is one moment's sample on both sides, left and right.
 -- Every rule on frames is done for each side.
 -- What contracts see of a frame is a sound: a pair of whole numbers.
+-- "Frames and arithmetic" in docs/rules.md.
 use Rattle.std.specs.Prelude.{ℕ, ℤ, pos, ◌+ℤ◌, max, unsigned_abs}
 use Rattle.sl_base.specs.Arithmetic.{IsSample, clamped, scaled}
 

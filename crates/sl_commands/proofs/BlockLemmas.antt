@@ -12,7 +12,7 @@ use Rattle.sl_commands.specs.declared.block.Block.{Block}
 use Rattle.sl_commands.specs.declared.block.Block.TheVariants.{Head, Part, End}
 use Rattle.sl_commands.specs.Settings.{LooperSettings}
 use Rattle.sl_base.specs.Limits.{max_list_frames}
-use Rattle.sl_commands.specs.Blocks.{parts_behind, parts_of, parts_of_lists, first_index, blocks_of, Begun, Place, has_list, may_be_part, place_after, place_behind, first_place, place_of, save_of, fits_name, may_follow, may_all_follow, IsSave}
+use Rattle.sl_commands.specs.Blocks.{parts_behind, parts_of, parts_of_lists, first_index, blocks_of, Underway, Place, has_list, may_be_part, place_after, place_behind, first_place, place_of, save_of, fits_name, may_follow, may_all_follow, IsSave}
 
 -- both halves of a test that passed
 both : (a b : Bool) → (a && b) ≡ true → (a ≡ true) × (b ≡ true)
@@ -28,18 +28,18 @@ place_behind-None (b ∷ bs) = refl
 pub place_behind-append : (p : Option Place) (xs ys : List Block) → place_behind p (xs ++ ys) ≡ place_behind (place_behind p xs) ys
 place_behind-append p [] ys = refl
 place_behind-append None (x ∷ xs) ys = sym (place_behind-None ys)
-place_behind-append (Some p) (x ∷ xs) ys = place_behind-append (place_after p.saves p.begun x) xs ys
+place_behind-append (Some p) (x ∷ xs) ys = place_behind-append (place_after p.saves p.underway x) xs ys
 
 -- one list takes a place to a second, another that one to a third
 comes_on : (p q r : Option Place) (xs ys : List Block) → place_behind p xs ≡ q → place_behind q ys ≡ r → place_behind p (xs ++ ys) ≡ r
 comes_on p q r xs ys first then_ = place_behind-append p xs ys ∙ ap (λ o. place_behind o ys) first ∙ then_
 
 -- a save with this target and so many loops, of which so many frames of the latest list were sent
-abbrev begun : Target → ℕ → ℕ → ℕ → Begun
-begun target loops index frames = record { target = target; loops = loops; index = index; frames = frames }
+abbrev underway : Target → ℕ → ℕ → ℕ → Underway
+underway target loops index frames = record { target = target; loops = loops; index = index; frames = frames }
 
 abbrev within : ℕ → Target → ℕ → ℕ → ℕ → Option Place
-within save target loops index frames = Some (record { saves = save; begun = Some (begun target loops index frames) })
+within save target loops index frames = Some (record { saves = save; underway = Some (underway target loops index frames) })
 
 -- after the list of one index, parts of the list of another may come, of which so many frames were sent
 abbrev IsNext : ℕ → ℕ → ℕ → ℕ → Type 0
@@ -169,21 +169,21 @@ module _ (save : ℕ) (target : Target) (loops : ℕ) where
 -- the blocks of a save take the place on by one save
 pub save_comes :
     (save : ℕ) (name : List ℕ) (target : Target) (settings : LooperSettings) (lists : List (List Sound)) → IsSave target name (length settings.strips) lists
-    → place_behind (Some (record { saves = save; begun = None })) (blocks_of save name target settings lists) ≡ Some (record { saves = save + 1; begun = None })
+    → place_behind (Some (record { saves = save; underway = None })) (blocks_of save name target settings lists) ≡ Some (record { saves = save + 1; underway = None })
 save_comes save name target settings lists is =
     let loops = length settings.strips in
     let index = first_index target in
     let come = lists_come save target loops lists index 0 index is.each (inr (refl, refl)) is.short in
     let begin : place_after save None (Head save name target settings) ≡ within save target loops index 0 = rw (eq-eqb save save refl, is.kind) refl in
-    let end : place_behind (within save target loops come.last come.frames) (End save ∷ []) ≡ Some (record { saves = save + 1; begun = None }) = rw (eq-eqb save save refl) refl in
+    let end : place_behind (within save target loops come.last come.frames) (End save ∷ []) ≡ Some (record { saves = save + 1; underway = None }) = rw (eq-eqb save save refl) refl in
     ap (λ p. place_behind p (parts_of_lists save index lists ++ End save ∷ [])) begin
     ∙ comes_on _ _ _ (parts_of_lists save index lists) (End save ∷ []) come.is end
 
 -- the same behind what was sent
 pub place_of-save :
     (sent : List Block) (save : ℕ) (name : List ℕ) (target : Target) (settings : LooperSettings) (lists : List (List Sound))
-    → place_of sent ≡ Some (record { saves = save; begun = None }) → IsSave target name (length settings.strips) lists
-    → place_of (sent ++ blocks_of save name target settings lists) ≡ Some (record { saves = save + 1; begun = None })
+    → place_of sent ≡ Some (record { saves = save; underway = None }) → IsSave target name (length settings.strips) lists
+    → place_of (sent ++ blocks_of save name target settings lists) ≡ Some (record { saves = save + 1; underway = None })
 place_of-save sent save name target settings lists due is =
     place_behind-append (Some first_place) sent (blocks_of save name target settings lists)
     ∙ ap (λ p. place_behind p (blocks_of save name target settings lists)) due
@@ -233,7 +233,7 @@ lists_pass test save passes index (list ∷ lists) =
 -- the blocks of a save may follow whole saves as many as its number, one after another
 pub save_follows :
     (sent : List Block) (save : ℕ) (name : List ℕ) (target : Target) (settings : LooperSettings) (lists : List (List Sound)) (bound : ℕ)
-    → place_of sent ≡ Some (record { saves = save; begun = None }) → IsSave target name (length settings.strips) lists → save < bound
+    → place_of sent ≡ Some (record { saves = save; underway = None }) → IsSave target name (length settings.strips) lists → save < bound
     → may_all_follow sent (blocks_of save name target settings lists) bound ≡ true
 save_follows sent save name target settings lists bound due is below =
     let fit : list_all (is_fit bound) (blocks_of save name target settings lists) ≡ true =
@@ -253,7 +253,7 @@ then_some_made true x is = refl
 then_some_made false x is = Prim.cc
 
 -- while a save has begun, the next block is its own
-own_block : (save : ℕ) (g : Begun) (b : Block) → is_some (place_after save (Some g) b) ≡ true → save_of b ≡ save
+own_block : (save : ℕ) (g : Underway) (b : Block) → is_some (place_after save (Some g) b) ≡ true → save_of b ≡ save
 own_block save g (Head other name target settings) is = Prim.cc
 own_block save g (Part other index frames) is =
     eqb-true other save ((both (other == save) (may_be_part g index (length frames)) (then_some_made {X = Place} (other == save && may_be_part g index (length frames)) _ is)).0)
@@ -261,7 +261,7 @@ own_block save g (End other) is = eqb-true other save (then_some_made {X = Place
 
 -- a block that may follow then is of the save that has begun
 pub follows_own_save :
-    (sent : List Block) (b : Block) (bound save : ℕ) (g : Begun) → place_of sent ≡ Some (record { saves = save; begun = Some g })
+    (sent : List Block) (b : Block) (bound save : ℕ) (g : Underway) → place_of sent ≡ Some (record { saves = save; underway = Some g })
     → may_follow sent b bound ≡ true → save_of b ≡ save
 follows_own_save sent b bound save g due may =
     let some : is_some (place_of (sent ++ b ∷ [])) ≡ true = (both _ _ ((both _ _ may).0)).0 in

@@ -48,17 +48,17 @@ abbrev pub blocks_of : ℕ → List ℕ → Target → LooperSettings → List (
 blocks_of save name target settings lists =
     Head save name target settings ∷ (parts_of_lists save (first_index target) lists ++ End save ∷ [])
 
--- a save that has begun: its target, its loops, and how many frames of the list of the latest index were sent
-pub record Begun : Type 0 where
+-- a save underway: its target, its loops, and how many frames of the list of the latest index were sent
+pub record Underway : Type 0 where
   pub target : Target
   pub loops : ℕ
   pub index : ℕ
   pub frames : ℕ
 
--- how far blocks have come: so many whole saves, and the save after them where it has begun
+-- how far blocks have come: so many whole saves, and the save underway after them, where there is one
 pub record Place : Type 0 where
   pub saves : ℕ
-  pub begun : Option Begun
+  pub underway : Option Underway
 
 -- a save has such a target
 abbrev pub is_save_target : Target → Bool
@@ -72,7 +72,7 @@ has_list All loops index = nat_lt index loops
 has_list Selected loops index = false
 
 -- a part of so many frames of the list of this index may come next
-abbrev pub may_be_part : Begun → ℕ → ℕ → Bool
+abbrev pub may_be_part : Underway → ℕ → ℕ → Bool
 may_be_part b index frames =
     has_list b.target b.loops index
     && nat_le 1 frames
@@ -80,29 +80,29 @@ may_be_part b index frames =
     && (nat_lt b.index index || index == b.index && b.frames % part_length == 0 && nat_le (b.frames + frames) max_list_frames)
 
 -- with that part
-abbrev pub with_part : Begun → ℕ → ℕ → Begun
+abbrev pub with_part : Underway → ℕ → ℕ → Underway
 with_part b index frames = record b { index = index; frames = cond (index == b.index) (b.frames + frames) frames }
 
 -- how far blocks have come with one more, or None where it isn't the one due
-abbrev pub place_after : ℕ → Option Begun → Block → Option Place
+abbrev pub place_after : ℕ → Option Underway → Block → Option Place
 place_after saves None (Head save name target settings) =
     then_some (save == saves && is_save_target target)
-    (record { saves = saves; begun = Some (record { target = target; loops = length settings.strips; index = first_index target; frames = 0 }) })
+    (record { saves = saves; underway = Some (record { target = target; loops = length settings.strips; index = first_index target; frames = 0 }) })
 place_after saves (Some b) (Part save index frames) =
     then_some (save == saves && may_be_part b index (length frames))
-    (record { saves = saves; begun = Some (with_part b index (length frames)) })
-place_after saves (Some b) (End save) = then_some (save == saves) (record { saves = saves + 1; begun = None })
+    (record { saves = saves; underway = Some (with_part b index (length frames)) })
+place_after saves (Some b) (End save) = then_some (save == saves) (record { saves = saves + 1; underway = None })
 place_after _ _ _ = None
 
 -- how far blocks have come with more of them
 abbrev pub place_behind : Option Place → List Block → Option Place
 place_behind place [] = place
 place_behind None (b ∷ bs) = None
-place_behind (Some p) (b ∷ bs) = place_behind (place_after p.saves p.begun b) bs
+place_behind (Some p) (b ∷ bs) = place_behind (place_after p.saves p.underway b) bs
 
 -- before all blocks
 abbrev pub first_place : Place
-first_place = record { saves = 0; begun = None }
+first_place = record { saves = 0; underway = None }
 
 -- how far blocks have come, or None where they break the order
 abbrev pub place_of : List Block → Option Place

@@ -4,7 +4,7 @@ ghost use Rattle.std.specs.Prelude.{◌≡◌, ℕ, ◌<◌, ◌&&◌, ◌+◌, 
 ghost use Rattle.sl_commands.specs.Verbs.{verb_name, verb_number, verbs};
 ghost use Rattle.sl_commands.specs.Commands.{target_number, numbered_target};
 ghost use Rattle.sl_commands.specs.Controls.{control_name, is_in_range, can_be_set, default_of};
-ghost use Rattle.sl_commands.specs.Blocks.{Begun, blocks_of, place_of, save_of, may_follow, may_all_follow, IsSave};
+ghost use Rattle.sl_commands.specs.Blocks.{Underway, blocks_of, place_of, save_of, may_follow, may_all_follow, IsSave};
 ghost use Rattle.sl_commands.specs.Entries.{are_stamped, may_be_next, IsStamped};
 
 use crate::block::Block;
@@ -123,15 +123,15 @@ pub fn a_whole_save_may_follow(
     settings: &Settings,
     lists: &Initial,
 )
-    requires due { place_of sent.now ≡ Some (record { saves = save; begun = None }) }
+    requires due { place_of sent.now ≡ Some (record { saves = save; underway = None }) }
     requires save { IsSave target name.now (length settings.now.strips) lists.now }
     ensures follow { (bound : ℕ) → save < bound → IsTrue (may_all_follow sent.now (blocks_of save name.now target settings.now lists.now) bound) }
     ensures done { place_of (sent.now ++ blocks_of save name.now target settings.now lists.now)
-        ≡ Some (record { saves = save + 1; begun = None }) }
+        ≡ Some (record { saves = save + 1; underway = None }) }
 {}
 
 /// Before a save has ended, no block of another may come.
 pub fn a_save_is_sent_to_its_end(sent: &[Block], block: &Block, bound: u32)
-    ensures { (save : ℕ) (begun : Begun) → place_of sent.now ≡ Some (record { saves = save; begun = Some begun })
+    ensures { (save : ℕ) (underway : Underway) → place_of sent.now ≡ Some (record { saves = save; underway = Some underway })
         → IsTrue (may_follow sent.now block.now bound) → save_of block.now ≡ save }
 {}

@@ -1,4 +1,5 @@
 -- What the code tells of a file's form is seen as the form of the definitions.
+-- "WAV" in docs/formats.md.
 use Rattle.std.specs.Prelude.{◌≡◌, ℕ, List, drop, Result, Ok, Err}
 use Rattle.wav_pcm.specs.declared.form.WavForm.{WavForm}
 use Rattle.wav_pcm.specs.declared.form.Spelling.{Spelling as SpellingOf}

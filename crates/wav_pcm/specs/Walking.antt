@@ -1,4 +1,5 @@
 -- What the code walks over is seen as the lists of bytes that it refers to.
+-- "WAV" in docs/formats.md.
 use Rattle.std.specs.Prelude.{ℕ, ◌≤◌, List, length, Option, Some, None, codes, if◌then◌else◌, ⊤}
 use Rattle.std.specs.Borrow.{Bor}
 use Rattle.std.specs.Str.{bytes_eq}

@@ -3,6 +3,7 @@
 //! - `wav_text` writes frames in 1 or 2 channels of 16 or 24 bits, as RIFF WAVE with plain numbers.
 //! - `read_wav` reads a file of 1 or 2 channels of 16 or 24 bits, or answers the first fault in the order that the format
 //!   gives. It is `wav_form`, which finds where the samples stand and how they are spelled, and then the frames.
+//! - `write_header` writes the bytes before the samples alone, for a text that is made a period after another.
 //! - `read_frames` and `write_samples` go over the samples of a period in place, in each of the four forms, and take no
 //!   memory.
 //! - `read_mono16` reads a file of one channel of 16 bits that is spelled as `wav_text` spells it, to the last byte.
@@ -31,6 +32,7 @@ mod walk;
 pub use fault::WavFault;
 pub use file::read_wav;
 pub use form::{WavForm, wav_form};
+pub use format::write_header;
 pub use frames::read_frames;
 pub use laws::{
     mono16_comes_back, mono16_has_one_reading, rate_0_is_not_supported, size_of_text,

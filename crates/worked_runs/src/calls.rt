@@ -52,7 +52,9 @@ fn names_and_words_are_read(rt: HostRuntime) -> Result<(), Fail> {
     for word in ["render", "in", "--period", "out"] {
         words.push(String::from_str(rt.alloc(), word)?)?;
     }
-    let Words::Render(files) = words_of(&words).ok().ok_or("not in the grammar")?;
+    let Ok(Words::Render(files)) = words_of(&words) else {
+        return Err(Fail::from("not in the grammar"));
+    };
     assert_eq!(rt; files.input.as_str(), "in");
     assert_eq!(rt; files.journal.as_str(), "--period");
     assert_eq!(rt; files.out.as_str(), "out");

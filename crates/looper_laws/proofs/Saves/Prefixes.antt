@@ -12,7 +12,7 @@ use Rattle.sl_commands.specs.declared.Target.TheVariants.{One, All, Selected}
 use Rattle.sl_commands.specs.declared.Block.{Block}
 use Rattle.sl_commands.specs.declared.Block.TheVariants.{Head, Part, End}
 use Rattle.sl_commands.specs.Settings.{LooperSettings}
-use Rattle.sl_commands.specs.Blocks.{parts_of_lists, first_index, Begun, Place, is_save_target, has_list, may_be_part, with_part, place_after, place_behind, first_place, place_of, save_of, fits_target, fits_name, may_follow, may_all_follow}
+use Rattle.sl_commands.specs.Blocks.{parts_of_lists, first_index, Underway, Place, is_save_target, has_list, may_be_part, with_part, place_after, place_behind, first_place, place_of, save_of, fits_target, fits_name, may_follow, may_all_follow}
 use Rattle.sl_commands.proofs.BlockLemmas.{place_behind-append}
 use Rattle.looper_rules.specs.Saves.{Save}
 use Rattle.looper_rules.specs.SaveBlocks.{blocks_of_save, blocks_for_all, list_count, MayBeSent, AreSent, BeginSaves}
@@ -24,10 +24,10 @@ record AreWhole (bound : ℕ) (sent : List Block) : Type 0 where
   are : AreSent 0 saves
   few : length saves ≤ bound
   blocks : sent ≡ blocks_for_all saves
-  at : place_of sent ≡ Some (record { saves = length saves; begun = None })
+  at : place_of sent ≡ Some (record { saves = length saves; underway = None })
 
 -- these blocks are those of whole saves, and behind them the head of one and the parts of its lists so far
-record HaveBegun (bound : ℕ) (b : Begun) (sent : List Block) : Type 0 where
+record HaveBegun (bound : ℕ) (b : Underway) (sent : List Block) : Type 0 where
   saves : List Save
   are : AreSent 0 saves
   few : length saves < bound
@@ -44,7 +44,7 @@ record HaveBegun (bound : ℕ) (b : Begun) (sent : List Block) : Type 0 where
   empty : AreEmptyFrom (suc latest) lists
   short : list_all (λ (list : List Sound). nat_le (length list) max_list_frames) lists ≡ true
   blocks : sent ≡ blocks_for_all saves ++ Head (length saves) name b.target settings ∷ parts_of_lists (length saves) (first_index b.target) lists
-  at : place_of sent ≡ Some (record { saves = length saves; begun = Some b })
+  at : place_of sent ≡ Some (record { saves = length saves; underway = Some b })
 
 -- a choice that was made was open, and gives what it gives
 then_made : {X : Type 0} (b : Bool) (x : X) → is_some (then_some b x) ≡ true → (b ≡ true) × (then_some b x ≡ Some x)
@@ -52,15 +52,15 @@ then_made true x is = (refl, refl)
 then_made false x is = absurd (cc)
 
 -- the place behind one block more
-place_of-push : (sent : List Block) (b : Block) (p : Place) → place_of sent ≡ Some p → place_of (sent ++ b ∷ []) ≡ place_after p.saves p.begun b
-place_of-push sent b p at = place_behind-append (Some first_place) sent (b ∷ []) ∙ ap (λ o. place_behind o (b ∷ [])) at ∙ one (place_after p.saves p.begun b)
+place_of-push : (sent : List Block) (b : Block) (p : Place) → place_of sent ≡ Some p → place_of (sent ++ b ∷ []) ≡ place_after p.saves p.underway b
+place_of-push sent b p at = place_behind-append (Some first_place) sent (b ∷ []) ∙ ap (λ o. place_behind o (b ∷ [])) at ∙ one (place_after p.saves p.underway b)
   where
     one : (o : Option Place) → place_behind o [] ≡ o
     one o = refl
 
 -- what is due where a block may follow
 may_push : (sent : List Block) (b : Block) (bound : ℕ) (p : Place) → place_of sent ≡ Some p → may_follow sent b bound ≡ true →
-    (is_some (place_after p.saves p.begun b) ≡ true) × (save_of b < bound) × (fits_name b ≡ true)
+    (is_some (place_after p.saves p.underway b) ≡ true) × (save_of b < bound) × (fits_name b ≡ true)
 may_push sent b bound p at may =
     let outer = and_parts (is_some (place_of (sent ++ b ∷ [])) && nat_lt (save_of b) bound) (fits_name b) may in
     let inner = and_parts (is_some (place_of (sent ++ b ∷ []))) (nat_lt (save_of b) bound) outer.0 in
@@ -84,10 +84,10 @@ each_list All loops k kind below = lt-ltb (0 + k) loops (omega arith)
 each_list Selected loops k kind below = absurd (cc)
 
 -- the save that has begun, with the lists so far
-abbrev save_so_far : {bound : ℕ} {b : Begun} {sent : List Block} → HaveBegun bound b sent → Save
+abbrev save_so_far : {bound : ℕ} {b : Underway} {sent : List Block} → HaveBegun bound b sent → Save
 save_so_far {b = b} h = record { number = length h.saves; name = h.name; target = b.target; settings = h.settings; lists = h.lists }
 
-may_be_sent : {bound : ℕ} {b : Begun} {sent : List Block} (h : HaveBegun bound b sent) → MayBeSent (save_so_far h)
+may_be_sent : {bound : ℕ} {b : Underway} {sent : List Block} (h : HaveBegun bound b sent) → MayBeSent (save_so_far h)
 may_be_sent {b = b} h =
     let count : length h.lists ≡ list_count b.target (length h.settings.strips) = h.count ∙ ap (list_count b.target) h.loops in
     record {
@@ -96,7 +96,7 @@ may_be_sent {b = b} h =
     }
 
 -- its blocks are those so far and its end
-so_far_whole : {bound : ℕ} {b : Begun} {sent : List Block} (h : HaveBegun bound b sent) →
+so_far_whole : {bound : ℕ} {b : Underway} {sent : List Block} (h : HaveBegun bound b sent) →
     blocks_for_all (h.saves ++ save_so_far h ∷ []) ≡ sent ++ End (length h.saves) ∷ []
 so_far_whole {b = b} h =
     blocks_for_more h.saves (save_so_far h)
@@ -113,8 +113,8 @@ head_comes : {bound : ℕ} {sent : List Block} (save : ℕ) (name : List ℕ) (t
     HaveBegun bound (record { target = target; loops = length settings.strips; index = first_index target; frames = 0 }) (sent ++ Head save name target settings ∷ [])
 head_comes {bound = bound} {sent = sent} save name target settings h may =
     let loops = length settings.strips in
-    let due = may_push sent (Head save name target settings) bound (record { saves = length h.saves; begun = None }) h.at may in
-    let begun : Place = record { saves = length h.saves; begun = Some (record { target = target; loops = loops; index = first_index target; frames = 0 }) } in
+    let due = may_push sent (Head save name target settings) bound (record { saves = length h.saves; underway = None }) h.at may in
+    let begun : Place = record { saves = length h.saves; underway = Some (record { target = target; loops = loops; index = first_index target; frames = 0 }) } in
     let made = then_made (save == length h.saves && is_save_target target) begun due.0 in
     let tests = and_parts (save == length h.saves) (is_save_target target) made.0 in
     let number : save ≡ length h.saves = eqb-true save (length h.saves) tests.0 in
@@ -140,7 +140,7 @@ head_comes {bound = bound} {sent = sent} save name target settings h may =
           ap (λ bs. bs ++ Head save name target settings ∷ []) h.blocks
           ∙ ap (λ n. blocks_for_all h.saves ++ Head n name target settings ∷ []) number
           ∙ ap (λ bs. blocks_for_all h.saves ++ Head (length h.saves) name target settings ∷ bs) (sym (no_parts (length h.saves) (first_index target) count));
-      at = place_of-push sent (Head save name target settings) (record { saves = length h.saves; begun = None }) h.at ∙ made.1;
+      at = place_of-push sent (Head save name target settings) (record { saves = length h.saves; underway = None }) h.at ∙ made.1;
     }
 
 -- the place of a list among those of its save
@@ -150,7 +150,7 @@ place_for All loops index has = (index, (omega arith), ltb-true index loops has)
 place_for Selected loops index has = absurd (cc)
 
 -- a part goes on at the latest list, or begins a later one
-goes_on_or_begins : (b : Begun) (index more : ℕ) →
+goes_on_or_begins : (b : Underway) (index more : ℕ) →
     (nat_lt b.index index || index == b.index && b.frames % 256 == 0 && nat_le (b.frames + more) max_list_frames) ≡ true →
     (b.index < index) ⊎ ((index ≡ b.index) × (b.frames % 256 ≡ 0) × (b.frames + more ≤ max_list_frames))
 goes_on_or_begins b index more is = by_later (nat_lt b.index index) refl is
@@ -164,7 +164,7 @@ goes_on_or_begins b index more is = by_later (nat_lt b.index index) refl is
         inr (eqb-true index b.index inner.0, eqb-true (b.frames % 256) 0 inner.1, leb-true (b.frames + more) max_list_frames outer.1)
 
 -- what a part needs of the list at its place: whole parts, no list behind it, and room
-record HasRoom (b : Begun) (index more k : ℕ) (lists : List (List Sound)) : Type 0 where
+record HasRoom (b : Underway) (index more k : ℕ) (lists : List (List Sound)) : Type 0 where
   so_far : ℕ
   is : IfSome (slice_get lists k) (λ list. length list ≡ so_far)
   whole : so_far % 256 ≡ 0
@@ -176,7 +176,7 @@ if_whole : (o : Option (List Sound)) (so_far : ℕ) → so_far % 256 ≡ 0 → I
 if_whole None so_far whole is = tt
 if_whole (Some list) so_far whole is = ap (λ n. n % 256) is ∙ whole
 
-has_room : {bound : ℕ} {b : Begun} {sent : List Block} (h : HaveBegun bound b sent) (index more k : ℕ) → index ≡ first_index b.target + k → more ≤ 256 →
+has_room : {bound : ℕ} {b : Underway} {sent : List Block} (h : HaveBegun bound b sent) (index more k : ℕ) → index ≡ first_index b.target + k → more ≤ 256 →
     (b.index < index) ⊎ ((index ≡ b.index) × (b.frames % 256 ≡ 0) × (b.frames + more ≤ max_list_frames)) → HasRoom b index more k h.lists
 has_room {b = b} h index more k at few (inl later) =
     let latest : b.index ≡ first_index b.target + h.latest = h.index in
@@ -203,11 +203,11 @@ has_room {b = b} h index more k at few (inr (same, whole, fits)) =
     }
 
 -- a part comes
-part_comes : {bound : ℕ} {b : Begun} {sent : List Block} (save index : ℕ) (part : List Sound) → HaveBegun bound b sent →
+part_comes : {bound : ℕ} {b : Underway} {sent : List Block} (save index : ℕ) (part : List Sound) → HaveBegun bound b sent →
     may_follow sent (Part save index part) bound ≡ true → HaveBegun bound (with_part b index (length part)) (sent ++ Part save index part ∷ [])
 part_comes {bound = bound} {b = b} {sent = sent} save index part h may =
-    let due = may_push sent (Part save index part) bound (record { saves = length h.saves; begun = Some b }) h.at may in
-    let next : Place = record { saves = length h.saves; begun = Some (with_part b index (length part)) } in
+    let due = may_push sent (Part save index part) bound (record { saves = length h.saves; underway = Some b }) h.at may in
+    let next : Place = record { saves = length h.saves; underway = Some (with_part b index (length part)) } in
     let made = then_made (save == length h.saves && may_be_part b index (length part)) next due.0 in
     let tests = and_parts (save == length h.saves) (may_be_part b index (length part)) made.0 in
     let number : save ≡ length h.saves = eqb-true save (length h.saves) tests.0 in
@@ -247,15 +247,15 @@ part_comes {bound = bound} {b = b} {sent = sent} save index part h may =
           ∙ ap (λ n. blocks_for_all h.saves ++ head ∷ (parts ++ Part n index part ∷ [])) number
           ∙ ap (λ i. blocks_for_all h.saves ++ head ∷ (parts ++ Part (length h.saves) i part ∷ [])) there.1
           ∙ ap (λ bs. blocks_for_all h.saves ++ head ∷ bs) (sym grown);
-      at = place_of-push sent (Part save index part) (record { saves = length h.saves; begun = Some b }) h.at ∙ made.1;
+      at = place_of-push sent (Part save index part) (record { saves = length h.saves; underway = Some b }) h.at ∙ made.1;
     }
 
 -- an end comes
-end_comes : {bound : ℕ} {b : Begun} {sent : List Block} (save : ℕ) → HaveBegun bound b sent → may_follow sent (End save) bound ≡ true →
+end_comes : {bound : ℕ} {b : Underway} {sent : List Block} (save : ℕ) → HaveBegun bound b sent → may_follow sent (End save) bound ≡ true →
     AreWhole bound (sent ++ End save ∷ [])
 end_comes {bound = bound} {b = b} {sent = sent} save h may =
-    let due = may_push sent (End save) bound (record { saves = length h.saves; begun = Some b }) h.at may in
-    let next : Place = record { saves = length h.saves + 1; begun = None } in
+    let due = may_push sent (End save) bound (record { saves = length h.saves; underway = Some b }) h.at may in
+    let next : Place = record { saves = length h.saves + 1; underway = None } in
     let made = then_made (save == length h.saves) next due.0 in
     let number : save ≡ length h.saves = eqb-true save (length h.saves) made.0 in
     let count : length (h.saves ++ save_so_far h ∷ []) ≡ length h.saves + 1 = length-append h.saves (save_so_far h ∷ []) in
@@ -265,14 +265,14 @@ end_comes {bound = bound} {b = b} {sent = sent} save h may =
       are = sent_more 0 h.saves (save_so_far h) h.are (let same : length h.saves ≡ 0 + length h.saves = omega arith in same) (may_be_sent h);
       few = (omega arith);
       blocks = ap (λ n. sent ++ End n ∷ []) number ∙ sym (so_far_whole h);
-      at = place_of-push sent (End save) (record { saves = length h.saves; begun = Some b }) h.at ∙ made.1 ∙ ap (λ n. Some (record { saves = n; begun = None })) (sym count);
+      at = place_of-push sent (End save) (record { saves = length h.saves; underway = Some b }) h.at ∙ made.1 ∙ ap (λ n. Some (record { saves = n; underway = None })) (sym count);
     }
 
 -- all blocks, one after another
 ends_whole : {bound : ℕ} {sent : List Block} → AreWhole bound sent → BeginSaves bound sent
 ends_whole {sent = sent} h = record { saves = h.saves; sent = h.are; few = h.few; rest = []; whole = sym h.blocks ∙ sym (append-nil sent) }
 
-ends_begun : {bound : ℕ} {b : Begun} {sent : List Block} → HaveBegun bound b sent → BeginSaves bound sent
+ends_begun : {bound : ℕ} {b : Underway} {sent : List Block} → HaveBegun bound b sent → BeginSaves bound sent
 ends_begun {bound = bound} h =
     let count : length (h.saves ++ save_so_far h ∷ []) ≡ length h.saves + 1 = length-append h.saves (save_so_far h ∷ []) in
     let below : length h.saves < bound = h.few in
@@ -286,17 +286,17 @@ ends_begun {bound = bound} h =
 
 -- how blocks that may follow have come, and one more of them
 abbrev HaveCome : ℕ → List Block → Type 0
-HaveCome bound sent = AreWhole bound sent ⊎ ((b : Begun) × HaveBegun bound b sent)
+HaveCome bound sent = AreWhole bound sent ⊎ ((b : Underway) × HaveBegun bound b sent)
 
 comes : {bound : ℕ} {sent : List Block} (b : Block) → HaveCome bound sent → may_follow sent b bound ≡ true → HaveCome bound (sent ++ b ∷ [])
 comes (Head save name target settings) (inl h) may =
     inr (record { target = target; loops = length settings.strips; index = first_index target; frames = 0 }, head_comes save name target settings h may)
 comes {bound = bound} {sent = sent} (Part save index part) (inl h) may =
-    let due = may_push sent (Part save index part) bound (record { saves = length h.saves; begun = None }) h.at may in absurd (cc)
+    let due = may_push sent (Part save index part) bound (record { saves = length h.saves; underway = None }) h.at may in absurd (cc)
 comes {bound = bound} {sent = sent} (End save) (inl h) may =
-    let due = may_push sent (End save) bound (record { saves = length h.saves; begun = None }) h.at may in absurd (cc)
+    let due = may_push sent (End save) bound (record { saves = length h.saves; underway = None }) h.at may in absurd (cc)
 comes {bound = bound} {sent = sent} (Head save name target settings) (inr (b, h)) may =
-    let due = may_push sent (Head save name target settings) bound (record { saves = length h.saves; begun = Some b }) h.at may in absurd (cc)
+    let due = may_push sent (Head save name target settings) bound (record { saves = length h.saves; underway = Some b }) h.at may in absurd (cc)
 comes (Part save index part) (inr (b, h)) may = inr (with_part b index (length part), part_comes save index part h may)
 comes (End save) (inr (b, h)) may = inl (end_comes save h may)
 

@@ -1,7 +1,7 @@
 use Rattle.std.proofs.Common.{◌≡◌, ◌-◌}
 use Rattle.sl_commands.specs.declared.How.TheVariants.{Backward}
 use Rattle.looper_rules.specs.Layers.{current_length}
-use Rattle.lazy_fill.specs.Runs.{Follows}
+use Rattle.looper_rules.specs.WritePlaces.{Follows}
 use Rattle.layers_bench.specs.Phases.{IsWriting}
 use Rattle.layers_bench.proofs.steps.backward.Given as goal
 

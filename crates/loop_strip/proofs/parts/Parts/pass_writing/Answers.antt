@@ -1,16 +1,14 @@
 use Rattle.std.proofs.Common.{ap, sym, ◌∙◌}
-use Rattle.looper_rules.specs.Layers.{current_list}
-use Rattle.looper_rules.specs.LoopFrame.{advanced_in, overrun_in, how_in, new_frame, sound_at}
-use Rattle.layer_memory.specs.Seen.{seen as seen_layers}
+use Rattle.looper_rules.specs.LoopFrame.{advanced_in, overrun_in, how_in}
 use Rattle.loop_strip.specs.Parts.{loop_of}
 use Rattle.loop_strip.proofs.OpeningLemmas.{layers_of}
-use Rattle.loop_strip.proofs.PassLemmas.{did_wrote, did_overran}
+use Rattle.loop_strip.proofs.PassLemmas.{next_is, did_wrote, did_overran}
 use Rattle.loop_strip.proofs.parts.Parts.pass_writing.Goals as goal
 
 pub returns-then-write-clause-did : goal.returns-then-write-clause-did
 returns-then-write-clause-did c =
     did_wrote c.args.frame.now c.mix_in-next.result c.how_in-how.result c.args.self.now c.advance_in.new.self c.write.new.self c.args.pool.now c.write.new.pool c.requires.owns
-    (c.mix_in-next.ensures ∙ ap (λ m. new_frame m c.args.self.now.controls.feedback (sound_at (current_list (seen_layers c.args.self.now.layers c.args.pool.now).layers) c.args.self.now.deck.pos) c.args.frame.now) (sym c.requires.is))
+    (next_is c.args.mode c.args.frame.now c.mix_in-next.result c.args.sound.now c.args.self.now c.args.pool.now c.requires.is c.requires.heard c.mix_in-next.ensures)
     (c.how_in-how.ensures ∙ ap (λ m. how_in m c.args.self.now.deck.backward) (sym c.requires.is))
     c.if-write.ensures c.shared.ensures c.advance_in.ensures.tape c.shared-then-write.ensures
     (c.advance_in.ensures.ok ∙ ap (λ m. advanced_in m (loop_of (layers_of c.args.self.now c.write.new.self))) (sym c.requires.is))

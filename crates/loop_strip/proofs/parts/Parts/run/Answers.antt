@@ -1,10 +1,15 @@
-use Rattle.std.proofs.Common.{arith, ◌≡◌, ◌<◌, length}
+use Rattle.std.proofs.Common.{rules, refl, ◌≡◌, ◌≤◌, length}
+use Rattle.std.proofs.lemmas.List.{take_rest}
 use Rattle.loop_strip.proofs.PassLemmas.{runs_more}
 use Rattle.loop_strip.proofs.parts.Parts.run.Goals as goal
 
-pub loop-i-preserved : goal.loop-i-preserved
-loop-i-preserved c =
-    let less : c.loop-i.i < length c.args.input.now = omega arith in
-    let same : length c.args.input.now ≡ length c.loop-i.heard = omega arith in
-    runs_more c.loop-i.i c.args.input.now c.loop-i.heard c.index-input-i.result c.frame.result c.args.self.now c.loop-i.self c.frame.new.self c.args.pool.now c.loop-i.pool c.frame.new.pool
-    less same c.index-input-i.is c.loop-i.invariant c.frame.ensures.did c.frame.ensures.heard c.frame.ensures.whole
+pub loop-done-preserved : goal.loop-done-preserved
+loop-done-preserved c =
+    let within : c.loop-done.done ≤ length c.args.input.now = c.loop-done.invariant.within in
+    let same : length c.loop-done.heard ≡ length c.args.heard.now = c.loop-done.invariant.same in
+    record {
+      within = search rules;
+      same = search rules;
+      runs = runs_more c.loop-done.done c.take_some-done.result c.args.input.now c.loop-done.heard c.take_some-done.new.heard _ _ c.args.self.now c.loop-done.self c.take_some-done.new.self c.args.pool.now c.loop-done.pool c.take_some-done.new.pool
+          (search rules) (search rules) c.loop-done.invariant.runs (rw (take_rest c.args.input.now c.loop-done.done) at c.take_some-done.ensures.did) (rw (take_rest c.args.input.now c.loop-done.done) at c.take_some-done.ensures.heard) refl c.take_some-done.ensures.whole;
+    }

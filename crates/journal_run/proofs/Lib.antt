@@ -1,0 +1,9 @@
+pub mod ClipLemmas
+pub mod InputLemmas
+pub mod FeedLemmas
+pub mod PlayLemmas
+pub mod TakeLemmas
+pub mod TurnLemmas
+pub mod EndLemmas
+pub mod QuotaLemmas
+pub mod JournalLemmas

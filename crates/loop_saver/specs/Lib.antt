@@ -1,0 +1,3 @@
+pub mod SavedFiles
+pub mod Savers
+pub mod Accepting

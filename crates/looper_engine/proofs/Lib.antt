@@ -1,0 +1,9 @@
+pub mod HoldingLemmas
+pub mod ApartLemmas
+pub mod TakenLemmas
+pub mod PlayedLemmas
+pub mod ReadLemmas
+pub mod SentLemmas
+pub mod StartLemmas
+pub mod QueueLemmas
+pub mod StretchLemmas

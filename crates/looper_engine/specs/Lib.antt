@@ -1,0 +1,5 @@
+pub mod Beginnings
+pub mod Queues
+pub mod Holding
+pub mod EngineParts
+pub mod Stretches

@@ -1,0 +1,154 @@
+//! The blocks of the first save, whose lists are read from the pins.
+
+ghost use Rattle.std.specs.Prelude.{◌≡◌, ◌≤◌, ◌<◌, ◌+◌, [], ◌∷◌, length, map, take, drop};
+ghost use Rattle.sl_base.specs.Limits.{max_loops};
+ghost use Rattle.sl_commands.specs.Blocks.{first_index};
+ghost use Rattle.save_parts.specs.Steps.{block_count, step_at, block_of};
+ghost use Rattle.save_parts.specs.declared.step.Step.TheVariants.{Head};
+ghost use Rattle.looper_lanes.specs.Loopers.{pinned_at};
+ghost use Rattle.looper_engine.specs.Holding.{lists_for, pinned_on, CanRead, Reads};
+
+use crate::queue::Pending;
+use arrayvec::ArrayVec;
+use looper_lanes::Lanes;
+use save_parts::{Step, block_count, step_at};
+use sl_base::Frame;
+use sl_commands::{Block, PartFrames, Target};
+
+/// The lengths of the lists that the pins hold for a save with this target.
+fn lengths_for(lanes: &Lanes, target: Target) -> ArrayVec<u32, 16>
+    requires { CanRead target lanes.now }
+    ensures value { result.items ≡ map length (lists_for target lanes.now) }
+    ensures few { length result.items ≤ max_loops }
+{
+    match target {
+        Target::One(index) => one_length(lanes, index),
+        _ => all_lengths(lanes),
+    }
+}
+
+/// The length of one pinned list.
+fn one_length(lanes: &Lanes, index: u8) -> ArrayVec<u32, 16>
+    requires { index < length lanes.now.tracks }
+    ensures { result.items ≡ length (pinned_at index lanes.now) ∷ [] }
+{
+    let mut lengths = ArrayVec::new();
+    lengths.push(lanes.pinned_length(index));
+    lengths
+}
+
+/// The lengths of all pinned lists.
+fn all_lengths(lanes: &Lanes) -> ArrayVec<u32, 16>
+    ensures { result.items ≡ map length (map pinned_on lanes.now.tracks) }
+{
+    let mut lengths = ArrayVec::new();
+    for index in 0..lanes.loops() {
+        lengths.push(lanes.pinned_length(index));
+    }
+    lengths
+}
+
+/// How many blocks a save with this target has.
+pub(crate) fn block_total(lanes: &Lanes, target: Target) -> u32
+    requires { CanRead target lanes.now }
+    ensures { result ≡ block_count (map length (lists_for target lanes.now)) }
+{
+    let lengths = lengths_for(lanes, target);
+    block_count(lengths.as_slice())
+}
+
+/// What the block of this number is, of a save with this target.
+fn step_for(lanes: &Lanes, target: Target, block: u32) -> Step
+    requires { CanRead target lanes.now }
+    ensures value { result ≡ step_at (map length (lists_for target lanes.now)) block }
+    ensures reads { Reads target lanes.now result }
+{
+    let lengths = lengths_for(lanes, target);
+    step_at(lengths.as_slice(), block)
+}
+
+/// The index of the loop of a save's first list.
+fn first_index(target: Target) -> u8
+    ensures { result ≡ first_index target }
+{
+    match target {
+        Target::One(index) => index,
+        _ => 0,
+    }
+}
+
+/// So many frames of a pinned list from a place on.
+fn frames_at(lanes: &Lanes, index: u8, place: u32, count: u32) -> PartFrames
+    requires index { index < length lanes.now.tracks }
+    requires few { count ≤ 256 }
+    requires within { place + count ≤ length (pinned_at index lanes.now) }
+    ensures { result ≡ take count (drop place (pinned_at index lanes.now)) }
+{
+    let mut span = [Frame::silence(); 256];
+    lanes.saved_span(index, place, &mut span[..count as usize]);
+    part_of(&span[..count as usize])
+}
+
+/// These frames as a part.
+fn part_of(frames: &[Frame]) -> PartFrames
+    requires { length frames.now ≤ 256 }
+    ensures { result ≡ frames.now }
+{
+    let mut part = PartFrames::new();
+    for index in 0..frames.len() {
+        part.push(frames[index]);
+    }
+    part
+}
+
+/// The head of a save.
+fn head_of(pending: &Pending) -> Block
+    ensures { result ≡ block_of Head pending.now.number pending.now.name pending.now.target pending.now.settings [] }
+{
+    Block::Head {
+        save: pending.number,
+        name: pending.name.duplicate(),
+        target: pending.target,
+        settings: pending.settings.duplicate(),
+    }
+}
+
+/// The block that this step of a save is.
+fn block_of(lanes: &Lanes, pending: &Pending, step: Step) -> Block
+    requires { Reads pending.now.target lanes.now step }
+    ensures { result ≡ block_of step pending.now.number pending.now.name pending.now.target pending.now.settings (lists_for pending.now.target lanes.now) }
+{
+    match step {
+        Step::Head => head_of(pending),
+        Step::Part { list, place, count } => {
+            let index = first_index(pending.target) + list as u8;
+            Block::Part {
+                save: pending.number,
+                index,
+                frames: frames_at(lanes, index, place, count),
+            }
+        }
+        Step::End => Block::End {
+            save: pending.number,
+        },
+    }
+}
+
+/// The block of this number of a save.
+pub(crate) fn block_at(lanes: &Lanes, pending: &Pending, block: u32) -> Block
+    requires { CanRead pending.now.target lanes.now }
+    ensures { result ≡ block_of (step_at (map length (lists_for pending.now.target lanes.now)) block) pending.now.number pending.now.name pending.now.target pending.now.settings (lists_for pending.now.target lanes.now) }
+{
+    block_of(lanes, pending, step_for(lanes, pending.target, block))
+}
+
+/// Where the block of this number is a part, its frames are looked up here once, and `block_at` searches nothing.
+pub(crate) fn seek_block(lanes: &mut Lanes, target: Target, block: u32)
+    requires { CanRead target lanes.old }
+    ensures { lanes.new ≡ lanes.old }
+{
+    match step_for(lanes, target, block) {
+        Step::Part { list, place, .. } => lanes.seek_saved(first_index(target) + list as u8, place),
+        _ => {}
+    }
+}

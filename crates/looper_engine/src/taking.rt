@@ -1,0 +1,81 @@
+//! What a command asks of the saves that wait.
+
+ghost use Rattle.std.specs.Prelude.{◌≡◌, length, None, if◌then◌else◌};
+ghost use Rattle.looper_lanes.specs.Loopers.{IsReached};
+ghost use Rattle.sl_commands.specs.declared.Target.TheVariants.{One};
+ghost use Rattle.looper_rules.specs.Looper.{index_of};
+ghost use Rattle.looper_engine.specs.Queues.{asked_by, target_in, released_by};
+
+use crate::queue::Pending;
+use looper_lanes::Lanes;
+use sl_base::Name;
+use sl_commands::{Command, Settings, Target, is_sender};
+
+/// A save with these settings, which comes behind those that were made.
+fn pending(lanes: &Lanes, target: Target, name: &Name, settings: Settings) -> Pending
+    ensures { result ≡ record { number = lanes.now.saves; target = target; name = name.now; settings = settings } }
+{
+    Pending {
+        number: lanes.saves(),
+        target,
+        name: name.duplicate(),
+        settings,
+    }
+}
+
+/// The target of a save of one loop, where this loop is selected.
+fn saved_target(target: Target, selected: u8) -> Target
+    ensures { result ≡ One (index_of target selected) }
+{
+    match target {
+        Target::One(index) => Target::One(index),
+        _ => Target::One(selected),
+    }
+}
+
+/// The save for which this command asks, without its lists.
+pub(crate) fn asked_by(lanes: &Lanes, command: &Command) -> Option<Pending>
+    requires reached { IsReached lanes.now }
+    ensures { result ≡ asked_by command.now lanes.now }
+{
+    match command {
+        Command::SaveLoop(target, name) => {
+            let settings = lanes.settings();
+            let one = saved_target(*target, settings.globals.selected_loop_num);
+            Some(pending(lanes, one, name, settings))
+        }
+        Command::SaveSession(name) => {
+            let settings = lanes.settings();
+            Some(pending(lanes, Target::All, name, settings))
+        }
+        _ => None,
+    }
+}
+
+/// The target that a command releases.
+fn target_in(command: &Command) -> Option<Target>
+    ensures { result ≡ target_in command.now }
+{
+    match command {
+        Command::Release(target, _) => Some(*target),
+        _ => None,
+    }
+}
+
+/// The target that this command of this sender releases, where it is valid.
+pub(crate) fn released_by(lanes: &Lanes, sender: u8, command: &Command) -> Option<Target>
+    ensures { result ≡ released_by sender command.now (length lanes.now.tracks) }
+{
+    if is_sender(sender, command) && command.is_allowed(lanes.loops()) {
+        target_in(command)
+    } else {
+        None
+    }
+}
+
+/// The save that was made, where one was.
+pub(crate) fn made_save(is_made: bool, asked: Option<Pending>) -> Option<Pending>
+    ensures { result ≡ (if is_made then asked else None) }
+{
+    if is_made { asked } else { None }
+}

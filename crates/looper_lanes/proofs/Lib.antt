@@ -1,0 +1,12 @@
+pub mod LaneLemmas
+pub mod StepLemmas
+pub mod SweepLemmas
+pub mod SumLemmas
+pub mod TracksLemmas
+pub mod MixLemmas
+pub mod ReadLemmas
+pub mod SpanLemmas
+pub mod CalmLemmas
+pub mod FramesLemmas
+pub mod LoadLemmas
+pub mod LooperLemmas

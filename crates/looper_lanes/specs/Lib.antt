@@ -1,0 +1,5 @@
+pub mod Lanes
+pub mod Tracks
+pub mod Loopers
+pub mod Spans
+pub mod Beginnings

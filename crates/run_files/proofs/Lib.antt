@@ -1,0 +1,5 @@
+pub mod LimitLemmas
+pub mod ReadLemmas
+pub mod FileLemmas
+pub mod PartLemmas
+pub mod RunLemmas

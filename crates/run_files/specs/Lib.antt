@@ -1,0 +1,5 @@
+pub mod Named
+pub mod OneFile
+pub mod RunLimits
+pub mod AllFiles
+pub mod Readings
