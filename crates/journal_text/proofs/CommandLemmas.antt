@@ -21,9 +21,10 @@ use Rattle.text_lines.specs.Lines.{IsWord}
 use Rattle.text_lines.specs.Shapes.{is_some}
 use Rattle.text_lines.proofs.NumeralLemmas.{decimal_has_form}
 use Rattle.text_lines.proofs.WordLemmas.{decimal_is_word, signed_is_word, name_is_word, printed_is_word, signed_has_form, signed_is_one}
-use Rattle.journal_text.specs.JournalLines.{target_word, command_words, HasWords, have_form, command_forms}
-use Rattle.journal_text.proofs.TargetLemmas.{target_comes_back, target_is_short}
-use Rattle.journal_text.proofs.TableLemmas.{verb_is_one, control_is_one, verb_name_is_word, control_name_is_word, verb_name_is_some, control_name_is_some, in_range_is_short, short_has_few_digits}
+use Rattle.text_lines.specs.Targets.{target_word}
+use Rattle.journal_text.specs.JournalLines.{command_words, HasWords, have_form, command_forms}
+use Rattle.text_lines.proofs.TargetLemmas.{target_comes_back, target_is_short}
+use Rattle.text_lines.proofs.TableLemmas.{verb_is_one, control_is_one, verb_name_is_word, control_name_is_word, verb_name_is_some, control_name_is_some, in_range_is_short, short_has_few_digits}
 
 -- what is there is one
 some_is_one : {A : Type 0} {a b : A} → Some a ≡ Some b → a ≡ b

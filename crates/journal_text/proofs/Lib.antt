@@ -1,6 +1,4 @@
-pub mod TargetLemmas
 pub mod FormLemmas
-pub mod TableLemmas
 pub mod CommandLemmas
 pub mod EntryLemmas
 pub mod SoFarLemmas

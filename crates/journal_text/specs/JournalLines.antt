@@ -11,17 +11,14 @@ use Rattle.sl_commands.specs.declared.command.Target.{Target}
 use Rattle.sl_commands.specs.declared.command.Command.{Command}
 use Rattle.sl_commands.specs.declared.command.Command.TheVariants.{Down, Up, Hit, Set, SetGlobal, Get, GetGlobal, SaveLoop, SaveSession, Release, Quit}
 use Rattle.sl_commands.specs.declared.entry.Entry.{Entry}
-use Rattle.sl_commands.specs.Commands.{target_number, is_target}
+use Rattle.sl_commands.specs.Commands.{is_target}
 use Rattle.sl_commands.specs.Controls.{control_name}
 use Rattle.sl_commands.specs.Verbs.{verb_name}
 use Rattle.text_lines.specs.Lines.{line_of}
+use Rattle.text_lines.specs.Targets.{target_word}
 use Rattle.text_lines.specs.Shapes.{have_shapes}
 use Rattle.text_lines.specs.declared.shape.Shape.{Shape}
 use Rattle.text_lines.specs.declared.shape.Shape.TheVariants.{Number, Integer, Word}
-
--- the word of a target
-abbrev pub target_word : Target → List ℕ
-target_word target = signed_decimal (target_number target)
 
 -- the words of a command
 abbrev pub command_words : Command → List (List ℕ)

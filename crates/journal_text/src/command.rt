@@ -9,19 +9,9 @@ ghost use Rattle.sl_commands.specs.declared.verb.Verb.{Verb};
 ghost use Rattle.sl_commands.specs.declared.control.Control.{Control};
 ghost use Rattle.journal_text.specs.JournalLines.{Spell};
 
-use crate::word::{number_of, target_of};
 use sl_base::Name;
 use sl_commands::{Command, control_of, verb_of};
-use text_lines::read_integer;
-
-/// The words behind the first, where that is this one.
-fn behind<'a, 'b>(words: &'a [&'b [u8]], first: &[u8]) -> Option<&'a [&'b [u8]]>
-    ensures found { IfSome result (λ rest. map (λ w. w.now) words.now ≡ first.now ∷ map (λ w. w.now) rest.now) }
-    ensures only { IfNone result ((rest : List (List ℕ)) → map (λ w. w.now) words.now ≢ first.now ∷ rest) }
-{
-    let (word, rest) = words.split_first()?;
-    if *word == first { Some(rest) } else { None }
-}
+use text_lines::{behind, number_of, read_integer, target_of};
 
 fn down_of(words: &[&[u8]]) -> Option<Command>
     ensures found { IfSome result (λ command. Spell (map (λ w. w.now) words.now) command) }

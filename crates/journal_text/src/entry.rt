@@ -7,10 +7,9 @@ ghost use Rattle.journal_text.specs.Journals.{HasLine, HasNoEntry};
 
 use crate::command::command_of;
 use crate::form::is_form;
-use crate::word::number_of;
 use sl_base::MAX_SESSION_FRAMES;
 use sl_commands::{Entry, TextKind};
-use text_lines::words_of;
+use text_lines::{number_of, words_of};
 
 /// The entry that words spell, where it may stand in a journal for so many loops.
 fn entry_of(words: &[&[u8]], loops: u8) -> Option<Entry>

@@ -20,7 +20,6 @@ mod reader;
 mod so_far;
 #[cfg(test)]
 mod tests;
-mod word;
 mod write;
 
 pub use laws::{a_journal_has_one_reading, journals_come_back};

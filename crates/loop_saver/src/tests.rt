@@ -54,9 +54,9 @@ const LIST: &[u8] =
 /// Gives a whole save to a saver, and what came of its end.
 fn saved(alloc: Global, keeper: &mut MemKeeper, target: Target, text: &str) -> Result<Saved, Fail> {
     let mut saver = Saver::new(48000);
-    let underway = saver.accept(alloc, keeper, &head(target, text)?);
+    let started = saver.accept(alloc, keeper, &head(target, text)?);
     let goes_on = saver.accept(alloc, keeper, &part());
-    if begun != Saved::Continue || goes_on != Saved::Continue {
+    if started != Saved::Continue || goes_on != Saved::Continue {
         return Ok(Saved::Continue);
     }
     Ok(saver.accept(alloc, keeper, &Block::End { save: 0 }))

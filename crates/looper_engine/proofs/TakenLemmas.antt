@@ -287,7 +287,7 @@ length_made None = refl
 length_made (Some s) = refl
 
 -- there is a place for the save that an entry made
-has_place : (made : Option Pending) (q : QueueOf) (n : ℕ) → n ≤ 16 → length q.due + length q.sending + length (option_to_list made) ≤ n → HasPlace made q
+has_place : (made : Option Pending) (q : QueueOf) (n : ℕ) → n ≤ max_loops → length q.due + length q.sending + length (option_to_list made) ≤ n → HasPlace made q
 has_place None q n few all = tt
 has_place (Some p) q n few all = omega arith
 

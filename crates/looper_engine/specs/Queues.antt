@@ -1,7 +1,8 @@
 -- The saves that no release has answered, without their lists: those that are due to be answered, and behind them those
--- whose blocks are still sent, of the first of which some blocks were sent. At most 16 of them wait at a time.
+-- whose blocks are still sent, of the first of which some blocks were sent. At most as many of them wait at a time as there may be loops.
 -- "Saves" and "Blocks of a save" in docs/rules.md.
 use Rattle.std.specs.Prelude.{◌≤◌, ◌<◌, ⊤, ℕ, ◌+◌, ◌==◌, Bool, true, false, not, ◌&&◌, if◌then◌else◌, List, [], ◌∷◌, ◌++◌, length, filter, Option, Some, None}
+use Rattle.sl_base.specs.Limits.{max_loops}
 use Rattle.sl_commands.specs.declared.Target.{Target}
 use Rattle.sl_commands.specs.declared.Command.{Command}
 use Rattle.sl_commands.specs.declared.Command.TheVariants.{SaveLoop, SaveSession, Release}
@@ -40,7 +41,7 @@ joined (Some p) q = record q { sending = q.sending ++ p ∷ [] }
 -- there is a place for the save that was made
 abbrev pub HasPlace : Option Pending → QueueOf → Type 0
 HasPlace None q = ⊤
-HasPlace (Some p) q = length q.due + length q.sending < 16
+HasPlace (Some p) q = length q.due + length q.sending < max_loops
 
 -- the queue of whose first save one more block was sent, by whether it was its last
 abbrev pub sent_of : Bool → Pending → List Pending → QueueOf → QueueOf
@@ -55,11 +56,11 @@ sent_from count (p ∷ ps) q = sent_of (q.part + 1 == count) p ps q
 abbrev pub block_sent : ℕ → QueueOf → QueueOf
 block_sent count q = sent_from count q.sending q
 
--- what a queue's fields keep: there is room for 16 saves in each part
+-- what a queue's fields keep: in each part there is room for as many saves as there may be loops
 pub record IsQueue (due_capacity sending_capacity : ℕ) (q : QueueOf) : Type 0 where
-  pub due_room : 16 ≤ due_capacity
-  pub sending_room : 16 ≤ sending_capacity
-  pub few : length q.due + length q.sending ≤ 16
+  pub due_room : max_loops ≤ due_capacity
+  pub sending_room : max_loops ≤ sending_capacity
+  pub few : length q.due + length q.sending ≤ max_loops
 
 -- the target that a command releases
 abbrev pub target_in : Command → Option Target

@@ -4,7 +4,7 @@ ghost use Rattle.std.specs.Prelude.{◌≡◌, ◌<◌, ◌+◌, Some, IfOk};
 ghost use Rattle.looper_rules.specs.Unanswered.{answers};
 ghost use Rattle.looper_engine.specs.Queues.{QueueOf, empty_queue, HasPlace, settled, joined, block_sent};
 
-use sl_base::{Memory, Name};
+use sl_base::{MAX_LOOPS, Memory, Name};
 use sl_commands::{Settings, Target};
 use std::alloc::Global;
 use std::marker::Model;
@@ -18,7 +18,7 @@ pub(crate) struct Pending {
     pub settings: Settings,
 }
 
-/// Saves that wait for their blocks to be sent, and then for their release. At most 16.
+/// Saves that wait for their blocks to be sent, and then for their release. At most as many as there may be loops.
 #[derive(Drop)]
 pub(crate) struct Queue {
     due: Vec<Pending>,
@@ -50,7 +50,7 @@ fn answers(released: Target, saved: Target) -> bool
 
 impl Queue {
     /// The most saves that wait at a time.
-    pub const CAPACITY: usize = 16;
+    pub const CAPACITY: usize = MAX_LOOPS as usize;
 
     /// No saves, and room for all that may wait.
     pub fn new(alloc: Global) -> Result<Queue, Memory>

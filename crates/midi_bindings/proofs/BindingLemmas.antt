@@ -1,5 +1,6 @@
 -- The words and the line of a binding.
 use Rattle.std.proofs.Common.{◌≡◌, ◌≢◌, ℕ, ◌+◌, ◌<◌, ◌≤◌, true, List, [], refl, sym, ap, ◌∙◌, arith}
+use Rattle.sl_base.specs.Limits.{max_loops}
 use Rattle.std.specs.Prelude.{ℤ, pos, negsuc, IsTrue, codes, Some, ◌&&◌, nat_lt}
 use Rattle.std.specs.List.{AllByRecursion}
 use Rattle.std.proofs.lemmas.Bool.{and_parts, leb-true, le-leb, ltb-true, lt-ltb, false≢true}
@@ -20,9 +21,10 @@ use Rattle.midi_bindings.specs.declared.binding.BindKind.{BindKind}
 use Rattle.midi_bindings.specs.declared.binding.BindKind.TheVariants.{On, Off, Program, High, Low}
 use Rattle.midi_bindings.specs.declared.binding.Binding.{Binding}
 use Rattle.midi_bindings.specs.declared.binding.Binding.TheVariants.{Give, Sweep}
-use Rattle.midi_bindings.specs.Lines.{kind_word, target_word, press_words, binding_words, binding_line, is_press, is_binding, is_kind, is_form, HasWords}
-use Rattle.midi_bindings.proofs.TargetLemmas.{target_comes_back, target_is_short}
-use Rattle.midi_bindings.proofs.TableLemmas.{verb_name_is_word, control_name_is_word, verb_name_is_some, control_name_is_some, in_range_is_short, short_has_few_digits}
+use Rattle.text_lines.specs.Targets.{target_word}
+use Rattle.midi_bindings.specs.Lines.{kind_word, press_words, binding_words, binding_line, is_press, is_binding, is_kind, is_form, HasWords}
+use Rattle.text_lines.proofs.TargetLemmas.{target_comes_back, target_is_short}
+use Rattle.text_lines.proofs.TableLemmas.{verb_name_is_word, control_name_is_word, verb_name_is_some, control_name_is_some, in_range_is_short, short_has_few_digits}
 
 -- what is there is one
 some_is_one : {A : Type 0} {a b : A} → Some a ≡ Some b → a ≡ b
@@ -115,7 +117,7 @@ more_bindings loops more (Sweep channel number target control low high) few is =
     ) refl
 
 -- what is a binding has words
-pub binding_has_words : (loops : ℕ) (binding : Binding) → loops ≤ 16 → IsTrue (is_binding loops binding) → HasWords binding
+pub binding_has_words : (loops : ℕ) (binding : Binding) → loops ≤ max_loops → IsTrue (is_binding loops binding) → HasWords binding
 binding_has_words loops (Give kind channel number command) few is =
     let parts = give_parts loops kind channel number command is in
     (parts.on_channel, omega (arith, parts.has_number), more_presses loops 256 command (omega arith) parts.press)
@@ -215,5 +217,5 @@ pub line_of_binding : (line : List ℕ) (binding : Binding) → words_in line �
 line_of_binding line binding same = sym (join_with_byte-slice_split 32 line) ∙ ap line_of same
 
 -- the words of a line that is a binding's
-pub words_of_binding : (loops : ℕ) (line : List ℕ) (binding : Binding) → loops ≤ 16 → IsTrue (is_binding loops binding) → line ≡ binding_line binding → words_in line ≡ binding_words binding
+pub words_of_binding : (loops : ℕ) (line : List ℕ) (binding : Binding) → loops ≤ max_loops → IsTrue (is_binding loops binding) → line ≡ binding_line binding → words_in line ≡ binding_words binding
 words_of_binding loops line binding few is same = ap words_in same ∙ words_of_line binding (binding_has_words loops binding few is)

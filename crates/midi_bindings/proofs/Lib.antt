@@ -1,5 +1,3 @@
-pub mod TargetLemmas
-pub mod TableLemmas
 pub mod FormLemmas
 pub mod BindingLemmas
 pub mod OneLemmas

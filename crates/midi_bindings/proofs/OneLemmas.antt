@@ -1,5 +1,6 @@
 -- Words are those of one binding.
 use Rattle.std.proofs.Common.{◌≡◌, ℕ, ◌+◌, ◌<◌, ◌≤◌, false, List, [], ◌∷◌, refl, sym, ap, ◌∙◌, subst, arith}
+use Rattle.sl_base.specs.Limits.{max_loops}
 use Rattle.std.specs.Prelude.{IsTrue, codes}
 use Rattle.std.specs.Fmt.{decimal, signed_decimal}
 use Rattle.std.specs.Str.{bytes_eq}
@@ -17,8 +18,9 @@ use Rattle.midi_bindings.specs.declared.binding.BindKind.{BindKind}
 use Rattle.midi_bindings.specs.declared.binding.BindKind.TheVariants.{On, Off, Program, High, Low}
 use Rattle.midi_bindings.specs.declared.binding.Binding.{Binding}
 use Rattle.midi_bindings.specs.declared.binding.Binding.TheVariants.{Give, Sweep}
-use Rattle.midi_bindings.specs.Lines.{kind_word, target_word, press_words, binding_words, binding_line, is_press, is_binding, HasWords}
-use Rattle.midi_bindings.proofs.TableLemmas.{verb_is_one, control_is_one, short_has_few_digits}
+use Rattle.text_lines.specs.Targets.{target_word}
+use Rattle.midi_bindings.specs.Lines.{kind_word, press_words, binding_words, binding_line, is_press, is_binding, HasWords}
+use Rattle.text_lines.proofs.TableLemmas.{verb_is_one, control_is_one, short_has_few_digits}
 use Rattle.midi_bindings.proofs.BindingLemmas.{target_is_one, binding_has_words, words_of_line}
 
 -- kinds of one word are one
@@ -164,7 +166,7 @@ line_is_of_one binding other has has_too same =
     words_are_of_one binding other has has_too (sym (words_of_line binding has) ∙ ap words_in same ∙ words_of_line other has_too)
 
 -- where the binding that words spell isn't one for so many loops, they are those of none that is
-pub not_valid : (loops : ℕ) (words : List (List ℕ)) (found other : Binding) → loops ≤ 16 → HasWords found → words ≡ binding_words found → is_binding loops found ≡ false → IsTrue (is_binding loops other) → words ≡ binding_words other → ⊥
+pub not_valid : (loops : ℕ) (words : List (List ℕ)) (found other : Binding) → loops ≤ max_loops → HasWords found → words ≡ binding_words found → is_binding loops found ≡ false → IsTrue (is_binding loops other) → words ≡ binding_words other → ⊥
 not_valid loops words found other few has same bad is same_too =
     let one = words_are_of_one found other has (binding_has_words loops other few is) (sym same ∙ same_too) in
     false≢true (sym bad ∙ ap (is_binding loops) one ∙ is)

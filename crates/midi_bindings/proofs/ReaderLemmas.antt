@@ -1,5 +1,6 @@
 -- What the reader of bindings answers.
 use Rattle.std.proofs.Common.{◌≡◌, ◌≢◌, ◌==◌, ℕ, ◌+◌, ◌≤◌, arith, true, false, Bool, List, [], ◌∷◌, length, refl, sym, ap, ◌∙◌, subst, Result, Ok, Err, IfOk, IfErr}
+use Rattle.sl_base.specs.Limits.{max_loops}
 use Rattle.std.proofs.lemmas.Bool.{eqb-true, false≢true}
 use Rattle.midi_bindings.specs.declared.binding.Binding.{Binding}
 use Rattle.sl_commands.specs.declared.fault.TextKind.{TextKind}
@@ -24,13 +25,13 @@ reason_at form bytes line at kind (Fault fault) told same first =
 reason_at form bytes line at kind Memory told same first = absurd told
 
 -- where bytes have a fault they are the text of no bindings
-pub reason_denies : (loops : ℕ) (bytes : List ℕ) (why : ReadText) → loops ≤ 16 → IsReason (bindings_form loops) bytes why → DeniesAll (λ bindings. IsBindings loops bytes bindings) why
+pub reason_denies : (loops : ℕ) (bytes : List ℕ) (why : ReadText) → loops ≤ max_loops → IsReason (bindings_form loops) bytes why → DeniesAll (λ bindings. IsBindings loops bytes bindings) why
 reason_denies loops bytes (Fault fault) few reason = λ bindings is.
     text_has_no_fault (bindings_form loops) (bindings_are_settled loops few) bytes bindings fault.line fault.kind (bindings_are_text loops bytes bindings is) reason
 reason_denies loops bytes Memory few reason = tt
 
 -- a text is that of its bindings alone
-pub one_reading : (loops : ℕ) (bytes : List ℕ) (bindings others : List Binding) → loops ≤ 16 → IsBindings loops bytes bindings → IsBindings loops bytes others → others ≡ bindings
+pub one_reading : (loops : ℕ) (bytes : List ℕ) (bindings others : List Binding) → loops ≤ max_loops → IsBindings loops bytes bindings → IsBindings loops bytes others → others ≡ bindings
 one_reading loops bytes bindings others few is is_too =
     text_is_one (bindings_form loops) (bindings_are_settled loops few) bytes others bindings (bindings_are_text loops bytes others is_too) (bindings_are_text loops bytes bindings is)
 
@@ -39,7 +40,7 @@ pub lines_found : (loops : ℕ) (bytes text : List ℕ) (answer : Result (List B
 lines_found loops bytes text (Ok bindings) same is = text_is_bindings loops bytes bindings (subst (λ bs. IsText (bindings_form loops) bs bindings) (sym same) is)
 lines_found loops bytes text (Err why) same is = tt
 
-pub lines_one : (loops : ℕ) (bytes : List ℕ) (answer : Result (List Binding) ReadText) → loops ≤ 16 → IfOk answer (λ bindings. IsBindings loops bytes bindings) → IfOk answer (λ bindings. (others : List Binding) → IsBindings loops bytes others → others ≡ bindings)
+pub lines_one : (loops : ℕ) (bytes : List ℕ) (answer : Result (List Binding) ReadText) → loops ≤ max_loops → IfOk answer (λ bindings. IsBindings loops bytes bindings) → IfOk answer (λ bindings. (others : List Binding) → IsBindings loops bytes others → others ≡ bindings)
 lines_one loops bytes (Ok bindings) few is = λ others is_too. one_reading loops bytes bindings others few is is_too
 lines_one loops bytes (Err why) few is = tt
 
@@ -47,7 +48,7 @@ pub lines_fault : (loops : ℕ) (bytes text : List ℕ) (answer : Result (List B
 lines_fault loops bytes text (Ok bindings) same is = tt
 lines_fault loops bytes text (Err why) same is = subst (λ bs. IsReason (bindings_form loops) bs why) (sym same) is
 
-pub lines_only : (loops : ℕ) (bytes : List ℕ) (answer : Result (List Binding) ReadText) → loops ≤ 16 → IfErr answer (IsReason (bindings_form loops) bytes) → IfErr answer (DeniesAll (λ bindings. IsBindings loops bytes bindings))
+pub lines_only : (loops : ℕ) (bytes : List ℕ) (answer : Result (List Binding) ReadText) → loops ≤ max_loops → IfErr answer (IsReason (bindings_form loops) bytes) → IfErr answer (DeniesAll (λ bindings. IsBindings loops bytes bindings))
 lines_only loops bytes (Ok bindings) few is = tt
 lines_only loops bytes (Err why) few is = reason_denies loops bytes why few is
 

@@ -2,7 +2,7 @@
 use Rattle.std.proofs.Common.{ℕ, ◌+◌, ◌<◌, ◌≤◌, List, [], ◌∷◌, ◌++◌, length, arith, length-append}
 use Rattle.std.specs.Prelude.{IsTrue}
 use Rattle.std.specs.List.{AllByRecursion}
-use Rattle.sl_base.specs.Limits.{max_binding_lines}
+use Rattle.sl_base.specs.Limits.{max_loops, max_binding_lines}
 use Rattle.text_lines.specs.FirstFaults.{MayAllFollow, IsText}
 use Rattle.midi_bindings.specs.declared.binding.Binding.{Binding}
 use Rattle.midi_bindings.specs.Lines.{is_binding}
@@ -16,10 +16,10 @@ all_pushed : (loops : ℕ) (before : List Binding) (binding : Binding) → AreVa
 all_pushed loops [] binding are is = (is, tt)
 all_pushed loops (b ∷ before) binding are is = (are.0, all_pushed loops before binding are.1 is)
 
-pub are_pushed : (before : List Binding) (binding : Binding) → AreBindings 16 before → length before < max_binding_lines → IsTrue (is_binding 16 binding) → AreBindings 16 (before ++ binding ∷ [])
+pub are_pushed : (before : List Binding) (binding : Binding) → AreBindings max_loops before → length before < max_binding_lines → IsTrue (is_binding max_loops binding) → AreBindings max_loops (before ++ binding ∷ [])
 are_pushed before binding are room is = record {
   few = omega (arith, length-append before (binding ∷ []));
-  valid = all_pushed 16 before binding are.valid is;
+  valid = all_pushed max_loops before binding are.valid is;
 }
 
 -- those that may stand one behind another are valid

@@ -1,5 +1,6 @@
 -- Bindings are a settled form: a line may stand or is wrong, with one kind of fault.
 use Rattle.std.proofs.Common.{◌≡◌, ℕ, ◌≤◌, List, refl, sym, ap, ◌∙◌, arith}
+use Rattle.sl_base.specs.Limits.{max_loops}
 use Rattle.std.specs.Prelude.{IsTrue}
 use Rattle.std.proofs.lemmas.Bool.{false≢true}
 use Rattle.sl_commands.specs.declared.fault.TextKind.{TextKind}
@@ -13,7 +14,7 @@ use Rattle.midi_bindings.proofs.BindingLemmas.{binding_has_words, line_whole, li
 use Rattle.midi_bindings.proofs.OneLemmas.{line_is_of_one}
 
 -- a line that is a binding's has a form and is that binding's
-binding_has_no_fault : (loops : ℕ) (line : List ℕ) (binding : Binding) (kind : TextKind) → loops ≤ 16 → IsTrue (is_binding loops binding) → line ≡ binding_line binding → ¬ HasNoBinding loops line kind
+binding_has_no_fault : (loops : ℕ) (line : List ℕ) (binding : Binding) (kind : TextKind) → loops ≤ max_loops → IsTrue (is_binding loops binding) → line ≡ binding_line binding → ¬ HasNoBinding loops line kind
 binding_has_no_fault loops line binding Form few is same none =
     false≢true (sym none ∙ ap (λ l. is_form (words_in l)) same ∙ line_has_form binding (binding_has_words loops binding few is))
 binding_has_no_fault loops line binding Value few is same none = none.1 binding is same
@@ -42,7 +43,7 @@ no_binding_is_one loops line Value TooMany none none_too = absurd none_too
 no_binding_is_one loops line Value Ending none none_too = absurd none_too
 
 -- a line that may stand isn't wrong
-stands_or_is_wrong : (loops : ℕ) (before : List Binding) (binding : Binding) (kind : TextKind) → loops ≤ 16 → MayStand loops before binding → ¬ IsWrong loops before (binding_line binding) kind
+stands_or_is_wrong : (loops : ℕ) (before : List Binding) (binding : Binding) (kind : TextKind) → loops ≤ max_loops → MayStand loops before binding → ¬ IsWrong loops before (binding_line binding) kind
 stands_or_is_wrong loops before binding kind few may (one_too_many full is) = omega (arith, may.room)
 stands_or_is_wrong loops before binding kind few may (no_binding room none) = binding_has_no_fault loops (binding_line binding) binding kind few may.valid refl none
 
@@ -58,7 +59,7 @@ header_is_whole : Lacks 10 bindings_header
 header_is_whole = (λ e. Prim.omega arith, (λ e. Prim.omega arith, (λ e. Prim.omega arith, (λ e. Prim.omega arith, (λ e. Prim.omega arith, (λ e. Prim.omega arith, (λ e. Prim.omega arith, (λ e. Prim.omega arith, (λ e. Prim.omega arith, (λ e. Prim.omega arith, (λ e. Prim.omega arith, (λ e. Prim.omega arith, (λ e. Prim.omega arith, (λ e. Prim.omega arith, (λ e. Prim.omega arith, (λ e. Prim.omega arith, (λ e. Prim.omega arith, tt)))))))))))))))))
 
 -- bindings are a settled form
-pub bindings_are_settled : (loops : ℕ) → loops ≤ 16 → IsSettled (bindings_form loops)
+pub bindings_are_settled : (loops : ℕ) → loops ≤ max_loops → IsSettled (bindings_form loops)
 bindings_are_settled loops few = record {
   whole_header = header_is_whole;
   whole = λ before b may. line_whole b (binding_has_words loops b few may.valid);

@@ -10,10 +10,11 @@ use Rattle.sl_commands.specs.declared.command.Command.{Command}
 use Rattle.sl_commands.specs.declared.command.Command.TheVariants.{Down, Up, Hit}
 use Rattle.sl_commands.specs.declared.command.Target.{Target}
 use Rattle.sl_commands.specs.declared.control.Control.{Control}
-use Rattle.sl_commands.specs.Commands.{target_number, is_target}
+use Rattle.sl_commands.specs.Commands.{is_target}
 use Rattle.sl_commands.specs.Controls.{control_name, is_of_loop, is_in_range}
 use Rattle.sl_commands.specs.Verbs.{verb_name}
 use Rattle.text_lines.specs.Lines.{line_of}
+use Rattle.text_lines.specs.Targets.{target_word}
 use Rattle.text_lines.specs.Shapes.{have_shapes}
 use Rattle.text_lines.specs.declared.shape.Shape.TheVariants.{Number, Integer, Word}
 use Rattle.midi_bindings.specs.declared.binding.BindKind.{BindKind}
@@ -28,10 +29,6 @@ kind_word Off = codes "off"
 kind_word Program = codes "pc"
 kind_word High = codes "cc"
 kind_word Low = codes "co"
-
--- the word of a target
-abbrev pub target_word : Target → List ℕ
-target_word target = signed_decimal (target_number target)
 
 -- the words of a verb that is given; other commands have none
 abbrev pub press_words : Command → List (List ℕ)

@@ -1,7 +1,7 @@
 //! A list of bindings.
 
 ghost use Rattle.std.specs.Prelude.{◌≡◌, ◌<◌, ◌≤◌, ◌++◌, ◌∷◌, [], length, IsTrue, OnOk, OnErr};
-ghost use Rattle.sl_base.specs.Limits.{max_binding_lines};
+ghost use Rattle.sl_base.specs.Limits.{max_loops, max_binding_lines};
 ghost use Rattle.midi_bindings.specs.Lines.{is_binding};
 ghost use Rattle.midi_bindings.specs.Lookups.{looked_up};
 
@@ -26,10 +26,11 @@ impl Model for Bindings {
     ghost Value = { List Binding };
 
     ghost use Rattle.midi_bindings.specs.Texts.{AreBindings};
+    ghost use Rattle.sl_base.specs.Limits.{max_loops};
 
     ghost view = { λ b. b.lines.items };
 
-    ghost invariant = { λ b. AreBindings 16 b.lines.items };
+    ghost invariant = { λ b. AreBindings max_loops b.lines.items };
 }
 
 impl Bindings {
@@ -45,7 +46,7 @@ impl Bindings {
     /// Puts one line at the end. After `Memory` the list is as before.
     pub fn push(&mut self, binding: Binding) -> Result<(), Memory>
         requires room { length self.old < max_binding_lines }
-        requires valid { IsTrue (is_binding 16 binding) }
+        requires valid { IsTrue (is_binding max_loops binding) }
         ensures ok { OnOk result (self.new ≡ self.old ++ binding ∷ []) }
         ensures unchanged { OnErr result (self.new ≡ self.old) }
     {

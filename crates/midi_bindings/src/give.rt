@@ -10,17 +10,9 @@ ghost use Rattle.midi_bindings.specs.declared.binding.Binding.{Binding};
 ghost use Rattle.midi_bindings.specs.Lines.{Spell, SpellPress, SpellSet};
 
 use crate::binding::Binding;
-use crate::word::{channel_of, kind_of, number_of, target_of, value_of};
+use crate::word::{channel_of, kind_of, value_of};
 use sl_commands::{Command, Control, Target, control_of, verb_of};
-
-/// The words behind the first, where that is this one.
-fn behind<'a, 'b>(words: &'a [&'b [u8]], first: &[u8]) -> Option<&'a [&'b [u8]]>
-    ensures found { IfSome result (λ rest. map (λ w. w.now) words.now ≡ first.now ∷ map (λ w. w.now) rest.now) }
-    ensures only { IfNone result ((rest : List (List ℕ)) → map (λ w. w.now) words.now ≢ first.now ∷ rest) }
-{
-    let (word, rest) = words.split_first()?;
-    if *word == first { Some(rest) } else { None }
-}
+use text_lines::{behind, number_of, target_of};
 
 fn down_of(words: &[&[u8]]) -> Option<Command>
     ensures found { IfSome result (λ command. SpellPress (map (λ w. w.now) words.now) command) }

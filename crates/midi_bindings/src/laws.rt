@@ -1,6 +1,7 @@
 //! What holds of the definitions.
 
 ghost use Rattle.std.specs.Prelude.{◌≡◌, ◌≤◌, ℕ, List};
+ghost use Rattle.sl_base.specs.Limits.{max_loops};
 ghost use Rattle.midi_bindings.specs.declared.binding.Binding.{Binding};
 ghost use Rattle.sl_commands.specs.declared.fault.TextKind.{TextKind};
 ghost use Rattle.text_lines.specs.FirstFaults.{FirstFault};
@@ -14,9 +15,9 @@ pub fn bindings_come_back()
 
 /// Bytes have one reading: their bindings, or a first fault.
 pub fn bindings_have_one_reading()
-    ensures bindings { (loops : ℕ) (bytes : List ℕ) (bindings others : List Binding) → loops ≤ 16 → IsBindings loops bytes bindings → IsBindings loops bytes others → others ≡ bindings }
-    ensures fault { (loops : ℕ) (bytes : List ℕ) (line other : ℕ) (kind kind_too : TextKind) → loops ≤ 16
+    ensures bindings { (loops : ℕ) (bytes : List ℕ) (bindings others : List Binding) → loops ≤ max_loops → IsBindings loops bytes bindings → IsBindings loops bytes others → others ≡ bindings }
+    ensures fault { (loops : ℕ) (bytes : List ℕ) (line other : ℕ) (kind kind_too : TextKind) → loops ≤ max_loops
         → FirstFault (bindings_form loops) bytes line kind → FirstFault (bindings_form loops) bytes other kind_too → (line ≡ other) × (kind ≡ kind_too) }
-    ensures either { (loops : ℕ) (bytes : List ℕ) (bindings : List Binding) (line : ℕ) (kind : TextKind) → loops ≤ 16
+    ensures either { (loops : ℕ) (bytes : List ℕ) (bindings : List Binding) (line : ℕ) (kind : TextKind) → loops ≤ max_loops
         → IsBindings loops bytes bindings → ¬ FirstFault (bindings_form loops) bytes line kind }
 {}

@@ -1,6 +1,7 @@
 //! What events give.
 
 ghost use Rattle.std.specs.Prelude.{◌≡◌, ◌≤ℤ◌, ◌*ℤ◌, ◌+ℤ◌, ◌-ℤ◌, int_div, ℤ, pos, negsuc, IsTrue};
+ghost use Rattle.sl_base.specs.Limits.{max_loops};
 ghost use Rattle.std.specs.List.{AllByRecursion};
 ghost use Rattle.midi_bindings.specs.Lines.{is_binding};
 ghost use Rattle.midi_bindings.specs.Lookups.{is_event_of, swept, given, looked_up};
@@ -75,7 +76,7 @@ fn swept(low: i32, high: i32, value: u8) -> i32
 
 /// What a binding gives at an event.
 fn given(binding: &Binding, event: MidiEvent) -> Option<Command>
-    requires { IsTrue (is_binding 16 binding.now) }
+    requires { IsTrue (is_binding max_loops binding.now) }
     ensures { result ≡ given binding.now event }
 {
     match binding {
@@ -109,7 +110,7 @@ fn given(binding: &Binding, event: MidiEvent) -> Option<Command>
 
 /// What the first matching line gives.
 pub fn first_given(lines: &[Binding], event: MidiEvent) -> Option<Command>
-    requires { AllByRecursion (λ binding. IsTrue (is_binding 16 binding)) lines.now }
+    requires { AllByRecursion (λ binding. IsTrue (is_binding max_loops binding)) lines.now }
     ensures { result ≡ looked_up lines.now event }
 {
     'lines: for place in 0..lines.len() {

@@ -1,6 +1,7 @@
 //! Reading bindings line by line.
 
 ghost use Rattle.std.specs.Prelude.{◌≡◌, ◌≤◌, ◌++◌, ◌∷◌, [], ℕ, List, length, IfOk, IfErr, OnOk};
+ghost use Rattle.sl_base.specs.Limits.{max_loops};
 ghost use Rattle.midi_bindings.specs.declared.binding.Binding.{Binding};
 ghost use Rattle.text_lines.specs.FirstFaults.{FirstFault, IsText, IsReason};
 ghost use Rattle.midi_bindings.specs.Texts.{bindings_form, bindings_header, IsBindings};
@@ -22,7 +23,7 @@ pub enum Refused {
 
 /// Takes one line behind those so far. An error leaves them as they were.
 fn take_line(so_far: &mut Bindings, line: &[u8], loops: u8) -> Result<(), Refused>
-    requires { loops ≤ 16 }
+    requires { loops ≤ max_loops }
     ensures ok { OnOk result (IsTaken loops so_far.old line.now so_far.new) }
     ensures wrong { IfErr result (IsRefused loops so_far.old line.now) }
 {
@@ -60,7 +61,7 @@ fn reason(line: u32, refused: Refused) -> ReadText
 
 /// What the lines behind the header say.
 fn read_lines(alloc: Global, lines: &[u8], loops: u8) -> Result<Bindings, ReadText>
-    requires { loops ≤ 16 }
+    requires { loops ≤ max_loops }
     ensures found { IfOk result (λ bindings. IsText (bindings_form loops) (bindings_header ++ (10 ∷ lines.now)) bindings) }
     ensures fault { IfErr result (IsReason (bindings_form loops) (bindings_header ++ (10 ∷ lines.now))) }
 {
@@ -85,7 +86,7 @@ fn read_lines(alloc: Global, lines: &[u8], loops: u8) -> Result<Bindings, ReadTe
 
 /// Reads bindings for so many loops, 16 at most: their lines, or the first fault. `Memory` may come at any text.
 pub fn read_bindings(alloc: Global, bytes: &[u8], loops: u8) -> Result<Bindings, ReadText>
-    requires { loops ≤ 16 }
+    requires { loops ≤ max_loops }
     ensures found { IfOk result (λ bindings. IsBindings loops bytes.now bindings) }
     ensures one { IfOk result (λ bindings. (others : List Binding) → IsBindings loops bytes.now others → others ≡ bindings) }
     ensures fault { IfErr result (IsReason (bindings_form loops) bytes.now) }

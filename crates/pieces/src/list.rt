@@ -2,6 +2,7 @@
 
 ghost use Rattle.std.specs.Prelude.{◌≡◌, ◌≤◌, ◌<◌, ◌+◌, ◌^◌, [], ◌∷◌, ◌++◌, length, slice_index, slice_set, IfOk};
 ghost use Rattle.std.specs.List.{insert};
+ghost use Rattle.sl_base.specs.Limits.{max_seams};
 ghost use Rattle.pieces.specs.OneMore.{Continues, ContinuesBackward, inserted, joined, overwritten, overwritten_backward};
 ghost use Rattle.pieces.specs.Pieces.{Solid, addresses, holding, total as total_of};
 ghost use Rattle.pieces.specs.Splitting.{IsHint};
@@ -37,7 +38,7 @@ impl Model for PieceList {
 impl PieceList {
     /// No pieces, and room for `room` of them, at most 65536.
     pub fn new(alloc: Global, room: u32) -> Result<PieceList, Memory>
-        requires { room ≤ 65536 }
+        requires { room ≤ max_seams }
         ensures { IfOk result (λ l. l ≡ record { items = []; room = room }) }
     {
         match Vec::with_capacity(alloc, room as usize + 4) {

@@ -1,7 +1,7 @@
 //! The steps of a save.
 
 ghost use Rattle.std.specs.Prelude.{◌≡◌, ◌≤◌, ◌<◌, length};
-ghost use Rattle.sl_base.specs.Limits.{max_loops};
+ghost use Rattle.sl_base.specs.Limits.{max_loops, max_list_frames};
 ghost use Rattle.save_parts.specs.Steps.{part_count, parts_in, block_count, part_step, step_behind, step_at};
 
 /// What a block of a save is. `list` counts the lists of the save from 0; `place` is a multiple of 256, and `count` 1 to 256
@@ -16,7 +16,7 @@ pub enum Step {
 /// How many parts a list of so many frames has.
 fn part_count(length: u32) -> u32
     ensures value { result ≡ part_count length }
-    ensures within { result ≤ 16777216 }
+    ensures within { result ≤ max_list_frames }
 {
     ((length as u64 + 255) / 256) as u32
 }

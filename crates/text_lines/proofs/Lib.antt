@@ -5,3 +5,5 @@ pub mod ShapeLemmas
 pub mod WordLemmas
 pub mod ReadingLemmas
 pub mod LoopLemmas
+pub mod TableLemmas
+pub mod TargetLemmas

@@ -2,3 +2,4 @@ pub mod Numerals
 pub mod Lines
 pub mod FirstFaults
 pub mod Shapes
+pub mod Targets

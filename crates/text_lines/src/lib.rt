@@ -4,13 +4,15 @@
 //!   words: where two spaces stand together a word is empty.
 //! - A number has one spelling of at most 19 digits. `read_numeral` gives a number that isn't below 0, `read_integer` a
 //!   whole number of 32 bits; `is_numeral` and `is_integer` tell what looks like one.
+//! - `target_of` gives the target that a word spells, `number_of` a number up to a greatest one, and `behind` the words
+//!   behind a first one.
 //! - `have_shapes` tells whether words look like those of a form, whatever they name.
 //! - What the first fault of a text is stands in the definitions alone: a form of text says how a line is spelled, what
 //!   may follow, where `end` is due and what is wrong with a line. Where a form is settled, a text has one reading:
 //!   one list of things, or one first fault.
 //! - No call takes memory.
 //!
-//! Begin with `line`, then `numeral`, `integer` and `shape`; `laws` has what holds of the definitions.
+//! Begin with `line`, then `numeral`, `integer`, `word` and `shape`; `laws` has what holds of the definitions.
 //! The rules are "Texts" and "Numbers in texts" in docs/formats.md and "Faults of texts" in docs/rules.md.
 #![tactic(auto)]
 
@@ -21,9 +23,11 @@ mod numeral;
 mod shape;
 #[cfg(test)]
 mod tests;
+mod word;
 
 pub use integer::{is_integer, read_integer};
 pub use laws::{a_line_is_its_words, integers_have_one_spelling, numbers_have_one_spelling};
 pub use line::{MOST_WORDS, Words, next_line, words_of};
 pub use numeral::{is_numeral, read_numeral};
 pub use shape::{Shape, have_shapes};
+pub use word::{behind, number_of, target_of};

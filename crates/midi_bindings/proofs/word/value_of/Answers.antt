@@ -1,4 +1,4 @@
-use Rattle.midi_bindings.proofs.TableLemmas.{short_has_few_digits}
+use Rattle.text_lines.proofs.TableLemmas.{short_has_few_digits}
 use Rattle.midi_bindings.proofs.word.value_of.Goals as goal
 
 pub returns-in-None-clause-only : goal.returns-in-None-clause-only

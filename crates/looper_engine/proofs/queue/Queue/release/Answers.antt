@@ -1,4 +1,5 @@
 use Rattle.std.proofs.Common.{rules, ◌≡◌, ◌≤◌, length, sym, ap, subst, arith}
+use Rattle.sl_base.specs.Limits.{max_loops}
 use Rattle.std.specs.Vec.{vec_capacity}
 use Rattle.looper_engine.specs.Queues.{QueueOf}
 use Rattle.looper_engine.proofs.QueueLemmas.{released_all, released_queue}
@@ -13,7 +14,7 @@ invariant_of-self c =
     in let few = c.self.invariant.few
     in record {
       due_room = c.loop-index.invariant.3;
-      sending_room = subst (λ v. 16 ≤ vec_capacity v) (sym same) c.self.invariant.sending_room;
+      sending_room = subst (λ v. max_loops ≤ vec_capacity v) (sym same) c.self.invariant.sending_room;
       few = omega arith;
     }
 

@@ -1,15 +1,14 @@
-//! What one word of a line names.
+//! What one word of a line names, and the words behind the first.
 
-ghost use Rattle.std.specs.Prelude.{◌≡◌, ◌≢◌, ℕ, ◌≤◌, IfSome, IfNone, IsTrue};
-ghost use Rattle.sl_base.specs.Limits.{max_session_frames};
+ghost use Rattle.std.specs.Prelude.{◌≡◌, ◌≢◌, ℕ, ◌≤◌, ◌∷◌, List, map, IfSome, IfNone, IsTrue};
 ghost use Rattle.sl_commands.specs.Commands.{is_target};
 ghost use Rattle.sl_commands.specs.declared.command.Target.{Target};
 ghost use Rattle.std.specs.Fmt.{decimal};
-ghost use Rattle.journal_text.specs.JournalLines.{target_word};
+ghost use Rattle.text_lines.specs.Targets.{target_word};
 
-use sl_base::MAX_SESSION_FRAMES;
+use crate::integer::read_integer;
+use crate::numeral::read_numeral;
 use sl_commands::Target;
-use text_lines::{read_integer, read_numeral};
 
 /// The target that a word spells.
 pub fn target_of(word: &[u8]) -> Option<Target>
@@ -28,4 +27,13 @@ pub fn number_of(word: &[u8], most: u64) -> Option<u64>
 {
     let number = read_numeral(word)?;
     if number <= most { Some(number) } else { None }
+}
+
+/// The words behind the first, where that is this one.
+pub fn behind<'a, 'b>(words: &'a [&'b [u8]], first: &[u8]) -> Option<&'a [&'b [u8]]>
+    ensures found { IfSome result (λ rest. map (λ w. w.now) words.now ≡ first.now ∷ map (λ w. w.now) rest.now) }
+    ensures only { IfNone result ((rest : List (List ℕ)) → map (λ w. w.now) words.now ≢ first.now ∷ rest) }
+{
+    let (word, rest) = words.split_first()?;
+    if *word == first { Some(rest) } else { None }
 }

@@ -9,7 +9,7 @@ use Rattle.sl_commands.specs.Commands.{is_target, target_number, numbered_target
 use Rattle.text_lines.specs.Numerals.{IsIntegerOf, IsNumeralOf}
 use Rattle.text_lines.proofs.IntegerLemmas.{numeral_is_one}
 use Rattle.text_lines.proofs.WordLemmas.{integer_is_one}
-use Rattle.journal_text.specs.JournalLines.{target_word}
+use Rattle.text_lines.specs.Targets.{target_word}
 
 -- a target comes back from its number
 pub target_comes_back : (target : Target) → IsTrue (is_target 256 target) → numbered_target (target_number target) ≡ Some target

@@ -2,8 +2,8 @@ use Rattle.std.proofs.Common.{rules}
 use Rattle.std.proofs.lemmas.Int.{to_z-of_z}
 use Rattle.std.specs.Int.{w32, w64}
 use mir.Val.{SFits}
-use Rattle.midi_bindings.proofs.TargetLemmas.{no_target}
-use Rattle.midi_bindings.proofs.word.target_of.Goals as goal
+use Rattle.text_lines.proofs.TargetLemmas.{no_target}
+use Rattle.text_lines.proofs.word.target_of.Goals as goal
 
 pub returns-clause-only : goal.returns-clause-only
 returns-clause-only c =
