@@ -1,7 +1,10 @@
 //! Saves, block by block, into a keeper in memory.
 
+ghost use Rattle.std.specs.Prelude.{◌≡◌, true, length};
+ghost use Rattle.sl_commands.specs.Blocks.{fits_target, has_list};
+
 use super::*;
-use sl_base::{Frame, Name};
+use sl_base::{Frame, MAX_SESSION_NAME, Name};
 use sl_commands::{Block, Globals, PartFrames, Settings, StripSettings, Strips, Target};
 use sl_ports::MemKeeper;
 use std::alloc::Global;
@@ -23,43 +26,46 @@ fn settings() -> Result<Settings, Fail> {
     Ok(Settings::of(48000, Globals::default(), strips).ok_or("not in range")?)
 }
 
-fn head(target: Target, text: &str) -> Result<Block, Fail> {
-    Ok(Block::Head {
-        save: 0,
-        name: name(text)?,
-        target,
-        settings: settings()?,
-    })
-}
+/// The WAV file of the two frames of the second loop.
+const LIST: &[u8] =
+    b"RIFF\x30\0\0\0WAVEfmt \x10\0\0\0\x01\0\x02\0\x80\xbb\0\0\0\x65\x04\0\x06\0\x18\0data\x0c\0\0\0\x01\0\0\xff\xff\xff\x02\0\0\0\x01\0";
 
-/// A part of two frames of the second loop.
-fn part() -> Block {
+/// Gives a saver the head of a save, a part of two frames of the second loop and the end. What came of the end.
+fn saved(alloc: Global, keeper: &mut MemKeeper, name: Name, target: Target, settings: Settings) -> Saved
+    requires list { has_list target (length settings.strips) 1 ≡ true }
+    requires named { fits_target target name ≡ true }
+{
+    let mut saver = Saver::new(48000);
+    let head = Block::Head {
+        save: 0,
+        name,
+        target,
+        settings,
+    };
+    saver.accept(alloc, keeper, &head);
     let mut frames = PartFrames::new();
     frames.push(Frame { left: 1, right: -1 });
     frames.push(Frame {
         left: 2,
         right: 256,
     });
-    Block::Part {
+    let part = Block::Part {
         save: 0,
         index: 1,
         frames,
-    }
+    };
+    saver.accept(alloc, keeper, &part);
+    saver.accept(alloc, keeper, &Block::End { save: 0 })
 }
 
-/// The WAV file of these two frames.
-const LIST: &[u8] =
-    b"RIFF\x30\0\0\0WAVEfmt \x10\0\0\0\x01\0\x02\0\x80\xbb\0\0\0\x65\x04\0\x06\0\x18\0data\x0c\0\0\0\x01\0\0\xff\xff\xff\x02\0\0\0\x01\0";
-
-/// Gives a whole save to a saver, and what came of its end.
-fn saved(alloc: Global, keeper: &mut MemKeeper, target: Target, text: &str) -> Result<Saved, Fail> {
-    let mut saver = Saver::new(48000);
-    let started = saver.accept(alloc, keeper, &head(target, text)?);
-    let goes_on = saver.accept(alloc, keeper, &part());
-    if started != Saved::Continue || goes_on != Saved::Continue {
+/// Saves a session of this name, and what came of its end.
+fn saved_session(alloc: Global, keeper: &mut MemKeeper, text: &str) -> Result<Saved, Fail> {
+    let name = name(text)?;
+    let settings = settings()?;
+    if name.as_bytes().len() > MAX_SESSION_NAME || settings.loop_count() < 2 {
         return Ok(Saved::Continue);
     }
-    Ok(saver.accept(alloc, keeper, &Block::End { save: 0 }))
+    Ok(saved(alloc, keeper, name, Target::All, settings))
 }
 
 fn keeper(alloc: Global, failing: &[u64]) -> Result<MemKeeper, Fail> {
@@ -69,7 +75,7 @@ fn keeper(alloc: Global, failing: &[u64]) -> Result<MemKeeper, Fail> {
 #[test]
 fn a_loop_is_saved_under_its_name(rt: HostRuntime) -> Result<(), Fail> {
     let mut keeper = keeper(rt.alloc(), &[])?;
-    let end = saved(rt.alloc(), &mut keeper, Target::One(1), "take.wav")?;
+    let end = saved(rt.alloc(), &mut keeper, name("take.wav")?, Target::One(1), settings()?);
     assert!(rt; end == Saved::Finished(Target::One(1), 0));
     assert!(rt; keeper.file(&name("take.wav")?) == Some(LIST));
     Ok(())
@@ -78,7 +84,7 @@ fn a_loop_is_saved_under_its_name(rt: HostRuntime) -> Result<(), Fail> {
 #[test]
 fn a_session_is_saved_list_by_list_and_then_its_text(rt: HostRuntime) -> Result<(), Fail> {
     let mut keeper = keeper(rt.alloc(), &[])?;
-    let end = saved(rt.alloc(), &mut keeper, Target::All, "set")?;
+    let end = saved_session(rt.alloc(), &mut keeper, "set")?;
     assert!(rt; end == Saved::Finished(Target::All, 0));
     assert!(rt; keeper.file(&name("set-0.wav")?).is_none(), "an empty loop");
     assert!(rt; keeper.file(&name("set-1.wav")?) == Some(LIST));
@@ -89,7 +95,7 @@ fn a_session_is_saved_list_by_list_and_then_its_text(rt: HostRuntime) -> Result<
 #[test]
 fn behind_a_failed_write_nothing_is_written(rt: HostRuntime) -> Result<(), Fail> {
     let mut keeper = keeper(rt.alloc(), &[1])?;
-    let end = saved(rt.alloc(), &mut keeper, Target::All, "set")?;
+    let end = saved_session(rt.alloc(), &mut keeper, "set")?;
     assert!(rt; end == Saved::Finished(Target::All, 1));
     assert!(rt; keeper.file(&name("set-1.wav")?).is_none());
     assert!(rt; keeper.file(&name("set")?).is_none());
