@@ -1,8 +1,10 @@
--- An engine is a looper with its journal, the number of frames done, and the saves that no release has answered: those
--- whose blocks were all sent, which are due to be answered, and behind them those whose blocks are still sent, in the
--- order in which they were made. Of the first of these some blocks were sent.
--- It takes a command by stamping it and applying it at once; it plays frames with no entry among them; and it sends one
--- block after another. A release must not answer a save whose blocks weren't all sent.
+-- An engine is a looper with its journal, the number of frames done, and the saves that no release
+-- has answered: those whose blocks were all sent, which are due to be answered, and behind them
+-- those whose blocks are still sent, in the order in which they were made. Of the first of these
+-- some blocks were sent.
+-- It takes a command by stamping it and applying it at once; it plays frames with no entry among
+-- them; and it sends one block after another. A release must not answer a save whose blocks weren't
+-- all sent.
 -- "Entries and replies" and "Saves" in docs/rules.md.
 use Rattle.std.specs.Prelude.{◌≡◌, ℕ, ◌+◌, ◌==◌, Bool, true, false, List, [], ◌∷◌, ◌++◌, length, drop, Option, Some, None, option_map, option_to_list, if◌then◌else◌}
 use Rattle.sl_base.specs.Sounds.{Sound}
@@ -77,7 +79,11 @@ took en e =
 
 -- an engine that played some frames, and what it put out
 abbrev pub went_on : List Sound → EngineOf → EngineOf
-went_on xs e = record e { looper = (begun e.frames [] xs e.looper).looper; frames = e.frames + length xs }
+went_on xs e = record e {
+  looper = (begun e.frames [] xs e.looper).looper;
+  frames =
+      e.frames + length xs;
+}
 
 abbrev pub put_out : List Sound → EngineOf → List Sound
 put_out xs e = (begun e.frames [] xs e.looper).output

@@ -1,6 +1,7 @@
--- An engine is in step with what went in and came out where these are the run of its journal: the output, the replies and
--- the saves so far, and the looper. The saves that it holds are the unanswered ones of that run, and the blocks that were
--- sent, followed by those that are left, are the blocks of all its saves, in their order.
+-- An engine is in step with what went in and came out where these are the run of its journal: the
+-- output, the replies and the saves so far, and the looper. The saves that it holds are the
+-- unanswered ones of that run, and the blocks that were sent, followed by those that are left, are
+-- the blocks of all its saves, in their order.
 -- "The run" and "Blocks of a save" in docs/rules.md.
 use Rattle.std.specs.Prelude.{◌≡◌, ◌≤◌, ◌<◌, ℕ, List, [], ◌∷◌, ◌++◌, length, All, Option, option_to_list}
 use Rattle.sl_base.specs.Sounds.{Sound}
@@ -28,7 +29,11 @@ nothing = record { input = []; output = []; replies = []; saves = []; sent = [] 
 -- with what a taken entry gave
 abbrev pub with_taken : Option Reply → Option Save → SoFar → SoFar
 with_taken answer made s =
-    record s { replies = s.replies ++ option_to_list answer; saves = s.saves ++ option_to_list made }
+    record s {
+      replies = s.replies ++ option_to_list answer;
+      saves =
+          s.saves ++ option_to_list made;
+    }
 
 -- with some frames
 abbrev pub with_frames : List Sound → List Sound → SoFar → SoFar

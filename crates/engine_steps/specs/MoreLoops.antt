@@ -1,5 +1,6 @@
--- A looper may have more loops than a journal speaks of: loops that begin empty, at the end of the list. An entry speaks of the
--- fewer where it is valid for them and names no target of all loops, as a session's save does too.
+-- A looper may have more loops than a journal speaks of: loops that begin empty, at the end of the
+-- list. An entry speaks of the fewer where it is valid for them and names no target of all loops,
+-- as a session's save does too.
 -- "Entries and replies" in docs/rules.md.
 use Rattle.std.specs.Prelude.{◌≡◌, ⊤, ℕ, true, List, ◌++◌}
 use Rattle.sl_commands.specs.declared.Target.TheVariants.{All}

@@ -1,14 +1,18 @@
 //! What an engine does, step by step: definitions and laws, no code.
 //!
-//! - An engine is a looper with its journal, the number of frames done, and the saves that no release has answered. It takes
-//!   commands (`took`), plays frames (`went_on`, `put_out`) and sends the blocks of saves (`next_block`, `block_sent`).
-//! - Each step keeps it in step (`IsInStep`): output, replies and saves so far are those of the run of its journal over the
-//!   input so far, and the blocks that were sent, followed by those that are left, are the blocks of all its saves.
-//! - It may take every command of OSC and MIDI at any time, and a release once the blocks of the oldest unanswered save were
-//!   all sent. Nothing here knows of periods: frames may be cut in any way.
+//! - An engine is a looper with its journal, the number of frames done, and the saves that no
+//!   release has answered. It takes commands (`took`), plays frames (`went_on`, `put_out`) and
+//!   sends the blocks of saves (`next_block`, `block_sent`).
+//! - Each step keeps it in step (`IsInStep`): output, replies and saves so far are those of the run
+//!   of its journal over the input so far, and the blocks that were sent, followed by those that
+//!   are left, are the blocks of all its saves.
+//! - It may take every command of OSC and MIDI at any time, and a release once the blocks of the
+//!   oldest unanswered save were all sent. Nothing here knows of periods: frames may be cut in any
+//!   way.
 //! - With more loops than its journal speaks of, it sounds the same.
 //!
-//! Begin with `specs/Engines`, then `specs/InStep`; `laws` has what holds. The rules are "The run" and "Saves" in docs/rules.md.
+//! Begin with `specs/Engines`, then `specs/InStep`; `laws` has what holds. The rules are "The run"
+//! and "Saves" in docs/rules.md.
 #![tactic(auto)]
 
 mod laws;

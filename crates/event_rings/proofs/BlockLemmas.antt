@@ -14,7 +14,9 @@ both_true true b is other = other
 both_true false b is other = is
 
 -- where each may follow those before it, all may
-pub all_follow : (bound : ℕ) (before blocks : List Block) → EachFollows follows bound before blocks → IsTrue (may_all_follow before blocks bound)
+pub all_follow : (bound : ℕ) (before blocks : List Block) →
+    EachFollows follows bound before blocks → IsTrue (may_all_follow before blocks bound)
 all_follow bound before [] each = refl
 all_follow bound before (b ∷ bs) each =
-    both_true (may_follow before b bound) (may_all_follow (before ++ b ∷ []) bs bound) each.0 (all_follow bound (before ++ b ∷ []) bs each.1)
+    both_true (may_follow before b bound) (may_all_follow (before ++ b ∷ []) bs bound) each.0
+    (all_follow bound (before ++ b ∷ []) bs each.1)

@@ -1,8 +1,9 @@
--- What contracts see of the ends of a ring. Another kind of ring, which waits for nobody, may share these: `is_still` says
--- which kind it is.
--- A full ring hands the item back: what was sent stays, the count of fulls rises by one, and at a moment of the call the
--- ring held as many of the items sent as its capacity. An empty one gives nothing: what was taken stays, and the count of
--- nones rises by one. Two ends of one ring that meet know both lists: sent is taken followed by what is left.
+-- What contracts see of the ends of a ring. Another kind of ring, which waits for nobody, may share
+-- these: `is_still` says which kind it is.
+-- A full ring hands the item back: what was sent stays, the count of fulls rises by one, and at a
+-- moment of the call the ring held as many of the items sent as its capacity. An empty one gives
+-- nothing: what was taken stays, and the count of nones rises by one. Two ends of one ring that
+-- meet know both lists: sent is taken followed by what is left.
 -- "Rings" in docs/rules.md.
 use Rattle.std.specs.Prelude.{◌≡◌, ◌≤◌, ◌-◌, ◌^◌, ℕ, Bool, List, [], ◌∷◌, ◌++◌, length}
 use Rattle.atomic_table.specs.Seated.{TableId}
@@ -17,7 +18,8 @@ max_capacity = 65536
 abbrev pub max_limit : ℕ
 max_limit = 2 ^ 62 - 1
 
--- the end that puts: its ring's name and kind, what was sent, the ring's numbers, and the count of fulls
+-- the end that puts: its ring's name and kind, what was sent, the ring's numbers, and the count of
+-- fulls
 pub record PutEnd (T : Type 0) : Type 0 where
   pub name : TableId
   pub is_still : Bool
@@ -27,7 +29,8 @@ pub record PutEnd (T : Type 0) : Type 0 where
   pub bound : ℕ
   pub fulls : ℕ
 
--- the end that takes: its ring's name and kind, what was taken, the ring's numbers, and the count of nones
+-- the end that takes: its ring's name and kind, what was taken, the ring's numbers, and the count
+-- of nones
 pub record TakeEnd (T : Type 0) : Type 0 where
   pub name : TableId
   pub is_still : Bool
@@ -50,7 +53,8 @@ pub record BothEnds (T : Type 0) : Type 0 where
   pub nones : ℕ
 
 -- two ends of one new ring with these numbers
-pub record IsNew {T : Type 0} (capacity limit bound : ℕ) (putter : PutEnd T) (taker : TakeEnd T) : Type 0 where
+pub record IsNew {T : Type 0} (capacity limit bound : ℕ) (putter : PutEnd T)
+    (taker : TakeEnd T) : Type 0 where
   pub name : putter.name ≡ taker.name
   pub kind : putter.is_still ≡ taker.is_still
   pub sent : putter.sent ≡ []
@@ -91,7 +95,8 @@ pub record SameBothRing {T : Type 0} (old new : BothEnds T) : Type 0 where
   pub fulls : new.fulls ≡ old.fulls
   pub nones : new.nones ≡ old.nones
 
--- a put found the ring full: it held its capacity of the items sent, those behind some that were taken
+-- a put found the ring full: it held its capacity of the items sent, those behind some that were
+-- taken
 pub record IsFull {T : Type 0} (old new : PutEnd T) : Type 0 where
   pub sent : new.sent ≡ old.sent
   pub counted : new.fulls ≡ raised old.fulls
@@ -101,7 +106,8 @@ pub record IsFull {T : Type 0} (old new : PutEnd T) : Type 0 where
   pub whole : length held ≡ old.capacity
 
 -- a take gave the next item, which may follow those before it
-pub record TakesNext {T : Type 0} (follows : List T → T → ℕ → Type 0) (item : T) (old new : TakeEnd T) : Type 0 where
+pub record TakesNext {T : Type 0} (follows : List T → T → ℕ → Type 0) (item : T)
+    (old new : TakeEnd T) : Type 0 where
   pub taken : new.taken ≡ old.taken ++ item ∷ []
   pub may : follows old.taken item old.bound
   pub few : length new.taken ≤ old.limit
@@ -115,7 +121,8 @@ pub record IsEmpty {T : Type 0} (old new : TakeEnd T) : Type 0 where
   pub order : sent ≡ old.taken
 
 -- two ends met: both lists and counts are theirs
-pub record Meets {T : Type 0} (putter : PutEnd T) (taker : TakeEnd T) (both : BothEnds T) : Type 0 where
+pub record Meets {T : Type 0} (putter : PutEnd T) (taker : TakeEnd T)
+    (both : BothEnds T) : Type 0 where
   pub name : both.name ≡ taker.name
   pub kind : both.is_still ≡ taker.is_still
   pub capacity : both.capacity ≡ taker.capacity
@@ -127,12 +134,14 @@ pub record Meets {T : Type 0} (putter : PutEnd T) (taker : TakeEnd T) (both : Bo
   pub nones : both.nones ≡ taker.nones
 
 -- what is left in the ring, with which the whole rule holds
-pub record HasRest {T : Type 0} (follows : List T → T → ℕ → Type 0) (both : BothEnds T) : Type 0 where
+pub record HasRest {T : Type 0} (follows : List T → T → ℕ → Type 0)
+    (both : BothEnds T) : Type 0 where
   pub rest : List T
   pub ring : IsRing follows both.sent both.taken rest both.capacity both.limit both.bound
 
 -- the next item of those that were left
-pub record TakesRest {T : Type 0} (follows : List T → T → ℕ → Type 0) (item : T) (old new : BothEnds T) : Type 0 where
+pub record TakesRest {T : Type 0} (follows : List T → T → ℕ → Type 0) (item : T)
+    (old new : BothEnds T) : Type 0 where
   pub taken : new.taken ≡ old.taken ++ item ∷ []
   pub may : follows old.taken item old.bound
   pub rest : List T

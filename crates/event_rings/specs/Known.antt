@@ -1,4 +1,5 @@
--- What an end of a ring knows: what it may do, what it knows to be sent and taken, and the ring's numbers.
+-- What an end of a ring knows: what it may do, what it knows to be sent and taken, and the ring's
+-- numbers.
 -- "Rings" in docs/rules.md.
 use Rattle.std.specs.Prelude.{◌≡◌, ◌≤◌, ℕ, Bool, true, false, List, [], ◌∷◌, ◌++◌, length}
 use Rattle.event_rings.specs.declared.known.Known.{Known}
@@ -6,7 +7,16 @@ use Rattle.event_rings.specs.declared.known.Known.{Known}
 -- what an end knows, made of its parts
 abbrev pub known : {T : Type 0} → Bool → Bool → List T → List T → ℕ → ℕ → ℕ → Known T
 known puts takes sent taken capacity limit bound =
-    record { puts = puts; takes = takes; sent = sent; taken = taken; capacity = capacity; limit = limit; bound = bound }
+    record {
+      puts = puts;
+      takes = takes;
+      sent = sent;
+      taken = taken;
+      capacity = capacity;
+      limit =
+          limit;
+      bound = bound;
+    }
 
 -- each of these items may follow those before it, of which the first come before them all
 abbrev pub EachFollows : {T : Type 0} → (List T → T → ℕ → Type 0) → ℕ → List T → List T → Type 0
@@ -15,7 +25,8 @@ EachFollows follows bound before (item ∷ items) =
     follows before item bound × EachFollows follows bound (before ++ item ∷ []) items
 
 -- what the end that puts knows, over a queue of this capacity
-pub record IsPutter {T : Type 0} (follows : List T → T → ℕ → Type 0) (capacity : ℕ) (v : Known T) : Type 0 where
+pub record IsPutter {T : Type 0} (follows : List T → T → ℕ → Type 0) (capacity : ℕ)
+    (v : Known T) : Type 0 where
   pub puts : v.puts ≡ true
   pub takes : v.takes ≡ false
   pub capacity_is : v.capacity ≡ capacity

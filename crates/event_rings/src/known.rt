@@ -2,7 +2,8 @@
 
 use std::collections::LinkedList;
 
-/// What an end may do, what it knows to be sent and taken, and the ring's numbers. No value of it is ever made.
+/// What an end may do, what it knows to be sent and taken, and the ring's numbers. No value of it
+/// is ever made.
 pub struct Known<T> {
     pub puts: bool,
     pub takes: bool,

@@ -10,7 +10,8 @@ use sl_commands::{Block, Item};
 /// A put that is done leaves a ring: what is sent and what is held have the item at their ends.
 pub fn a_put_leaves_a_ring<T: Item>()
     ensures { (sent taken held : List T) (capacity limit bound : ℕ) (item : T)
-        → IsRing T.may_follow sent taken held capacity limit bound → length held < capacity → length sent < limit
+        → IsRing T.may_follow sent taken held capacity limit bound → length held < capacity →
+        length sent < limit
         → T.may_follow sent item bound
         → IsRing T.may_follow (sent ++ item ∷ []) taken (held ++ item ∷ []) capacity limit bound }
 {}
@@ -21,7 +22,8 @@ pub fn a_take_leaves_a_ring<T: Item>()
         → IsRing T.may_follow sent taken (item ∷ held) capacity limit bound
         → IsRing T.may_follow sent (taken ++ item ∷ []) held capacity limit bound }
     ensures next { (sent taken held : List T) (capacity limit bound : ℕ) (item : T)
-        → IsRing T.may_follow sent taken (item ∷ held) capacity limit bound → T.may_follow taken item bound }
+        → IsRing T.may_follow sent taken (item ∷ held) capacity limit bound →
+        T.may_follow taken item bound }
 {}
 
 /// What a taker of blocks has taken is always in the order of blocks.

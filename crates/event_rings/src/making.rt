@@ -21,7 +21,8 @@ pub const MAX_CAPACITY: usize = 65536;
 /// The greatest limit of a ring, the number of items that are ever sent on it: 2^62 - 1.
 pub const MAX_LIMIT: u64 = 4611686018427387903;
 
-/// The two ends of a new ring that holds `capacity` items, 1 to 65536. Its limit is the greatest, and its bound 0.
+/// The two ends of a new ring that holds `capacity` items, 1 to 65536. Its limit is the greatest,
+/// and its bound 0.
 pub fn ring<T: Item, R: Wait>(
     alloc: Global,
     wait: &R,
@@ -34,8 +35,8 @@ pub fn ring<T: Item, R: Wait>(
     ring_with(alloc, wait, capacity, MAX_LIMIT, 0)
 }
 
-/// The two ends of a new ring that holds `capacity` items, 1 to 65536. At most `limit` items, 2^62 - 1 at most, are ever
-/// sent on it, each of which may follow those before it under `bound`.
+/// The two ends of a new ring that holds `capacity` items, 1 to 65536. At most `limit` items, 2^62
+/// - 1 at most, are ever sent on it, each of which may follow those before it under `bound`.
 pub fn ring_with<T: Item, R: Wait>(
     alloc: Global,
     wait: &R,

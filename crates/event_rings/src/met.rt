@@ -31,7 +31,20 @@ impl<T: Item> Model for Met<T> {
 
     ghost Value = { BothEnds T };
 
-    ghost view = { λ p. record { name = p.pass.table_id; is_still = false; sent = (seen p.pass).sent; taken = (seen p.pass).taken; capacity = (seen p.pass).capacity; limit = (seen p.pass).limit; bound = (seen p.pass).bound; fulls = p.fulls; nones = p.nones } };
+    ghost view = { λ p.
+        record {
+          name = p.pass.table_id;
+          is_still = false;
+          sent = (seen p.pass).sent;
+          taken =
+              (seen p.pass).taken;
+          capacity = (seen p.pass).capacity;
+          limit = (seen p.pass).limit;
+          bound =
+              (seen p.pass).bound;
+          fulls = p.fulls;
+          nones = p.nones;
+        } };
 
     ghost invariant = { λ p. IsPassOf (arc_value p.line) p.pass × IsBoth (seen p.pass) };
 }
@@ -64,7 +77,8 @@ pub fn meet<T: Item, R: Wait>(wait: &R, putter: Putter<T>, taker: Taker<T>) -> M
 }
 
 impl<T: Item> Met<T> {
-    /// Takes the next item that is left, or nothing where all that was sent is taken. No memory is taken.
+    /// Takes the next item that is left, or nothing where all that was sent is taken. No memory is
+    /// taken.
     pub fn drain<R: Wait>(&mut self, wait: &R) -> Option<T>
         ensures ring { SameBothRing self.old self.new }
         ensures some { IfSome result (λ item. TakesRest T.may_follow item self.old self.new) }

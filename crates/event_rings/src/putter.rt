@@ -29,9 +29,21 @@ impl<T: Item> Model for Putter<T> {
 
     ghost Value = { PutEnd T };
 
-    ghost view = { λ p. record { name = p.pass.table_id; is_still = false; sent = (seen p.pass).sent; capacity = (seen p.pass).capacity; limit = (seen p.pass).limit; bound = (seen p.pass).bound; fulls = p.fulls } };
+    ghost view = { λ p.
+        record {
+          name = p.pass.table_id;
+          is_still = false;
+          sent = (seen p.pass).sent;
+          capacity =
+              (seen p.pass).capacity;
+          limit = (seen p.pass).limit;
+          bound = (seen p.pass).bound;
+          fulls =
+              p.fulls;
+        } };
 
-    ghost invariant = { λ p. IsPassOf (arc_value p.line) p.pass × IsPutter T.may_follow (ruled_capacity (arc_value p.line)) (seen p.pass) };
+    ghost invariant = { λ p. IsPassOf (arc_value p.line) p.pass
+        × IsPutter T.may_follow (ruled_capacity (arc_value p.line)) (seen p.pass) };
 }
 
 /// The item that a full ring hands back.
@@ -41,12 +53,14 @@ pub struct Full<T: Item> {
 }
 
 impl<T: Item> Putter<T> {
-    /// Puts an item behind those that were sent, or hands it back where the ring is full. No memory is taken.
+    /// Puts an item behind those that were sent, or hands it back where the ring is full. No memory
+    /// is taken.
     pub fn put<R: Wait>(&mut self, wait: &R, item: T) -> Result<(), Full<T>>
         requires room { length self.old.sent < self.old.limit }
         requires may { T.may_follow self.old.sent item self.old.bound }
         ensures ring { SamePutRing self.old self.new }
-        ensures ok { OnOk result ((self.new.sent ≡ self.old.sent ++ item ∷ []) × (self.new.fulls ≡ self.old.fulls)) }
+        ensures ok { OnOk result ((self.new.sent ≡ self.old.sent ++ item ∷ [])
+            × (self.new.fulls ≡ self.old.fulls)) }
         ensures full { IfErr result (λ f. (f.item ≡ item) × IsFull self.old self.new) }
     {
         match self.line.push_as::<Put, R>(wait, &mut self.pass, item) {

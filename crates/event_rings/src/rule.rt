@@ -63,7 +63,8 @@ impl<T: Item> Outcome<T, Known<T>> for Put {
     ghost use Rattle.std.specs.Prelude.{◌≡◌, [], ◌∷◌, ◌++◌};
     ghost use Rattle.event_rings.specs.Known.{known};
 
-    ghost then = { λ v x w. w ≡ known v.puts v.takes (v.sent ++ x ∷ []) v.taken v.capacity v.limit v.bound };
+    ghost then = { λ v x w. w ≡ known v.puts v.takes (v.sent ++ x ∷ []) v.taken v.capacity v.limit
+        v.bound };
 }
 
 impl<T: Item> Lesson<T, Known<T>> for Put {
@@ -72,7 +73,8 @@ impl<T: Item> Lesson<T, Known<T>> for Put {
     ghost fact = { λ v items. (taken : List T) × (v.sent ≡ taken ++ items) };
 }
 
-/// A take: some, one more item is taken, which may follow those before it; none, the queue holds nothing.
+/// A take: some, one more item is taken, which may follow those before it; none, the queue holds
+/// nothing.
 pub struct Take;
 
 impl<T: Item> Outcome<T, Known<T>> for Take {

@@ -29,9 +29,21 @@ impl<T: Item> Model for Taker<T> {
 
     ghost Value = { TakeEnd T };
 
-    ghost view = { λ p. record { name = p.pass.table_id; is_still = false; taken = (seen p.pass).taken; capacity = (seen p.pass).capacity; limit = (seen p.pass).limit; bound = (seen p.pass).bound; nones = p.nones } };
+    ghost view = { λ p.
+        record {
+          name = p.pass.table_id;
+          is_still = false;
+          taken = (seen p.pass).taken;
+          capacity =
+              (seen p.pass).capacity;
+          limit = (seen p.pass).limit;
+          bound = (seen p.pass).bound;
+          nones =
+              p.nones;
+        } };
 
-    ghost invariant = { λ p. IsPassOf (arc_value p.line) p.pass × IsTaker T.may_follow (seen p.pass) };
+    ghost invariant = { λ p. IsPassOf (arc_value p.line) p.pass
+        × IsTaker T.may_follow (seen p.pass) };
 }
 
 impl<T: Item> Taker<T> {
@@ -57,7 +69,8 @@ impl<T: Item> Taker<T> {
         self.nones
     }
 
-    /// Each item that was taken may follow those before it, and there are at most as many as the limit.
+    /// Each item that was taken may follow those before it, and there are at most as many as the
+    /// limit.
     pub fn taken_in_order(&self)
         ensures order { EachFollows T.may_follow self.now.bound [] self.now.taken }
         ensures few { length self.now.taken ≤ self.now.limit }

@@ -1,5 +1,5 @@
-//! What no clause says: that a ring holds as many items as its capacity, that takes give what was put, with ample memory
-//! and on two threads.
+//! What no clause says: that a ring holds as many items as its capacity, that takes give what was
+//! put, with ample memory and on two threads.
 
 ghost use Rattle.std.specs.Prelude.{◌≡◌, ◌+◌, ◌≤◌, [], length};
 ghost use Rattle.event_rings.specs.Ends.{max_limit};

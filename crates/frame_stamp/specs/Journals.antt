@@ -1,5 +1,6 @@
--- A journal has a quota: each of the senders 0 and 1 may have that many entries, and sender 2, which answers saves, twice
--- as many. The next entry of a sender has the number of entries that this sender has.
+-- A journal has a quota: each of the senders 0 and 1 may have that many entries, and sender 2,
+-- which answers saves, twice as many. The next entry of a sender has the number of entries that
+-- this sender has.
 -- "Entries" in docs/rules.md.
 use Rattle.std.specs.Prelude.{◌≡◌, ◌≤◌, ◌<◌, ℕ, zero, suc, ◌+◌, ◌*◌, List, length, get_or, IsTrue}
 use Rattle.sl_base.specs.Limits.{max_quota}

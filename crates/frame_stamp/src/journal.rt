@@ -30,7 +30,8 @@ impl Model for Journal {
 }
 
 impl Journal {
-    /// No entries yet. There is room for `quota` entries each of senders 0 and 1, and for twice as many of sender 2.
+    /// No entries yet. There is room for `quota` entries each of senders 0 and 1, and for twice as
+    /// many of sender 2.
     pub fn with_quota(alloc: Global, quota: u32) -> Result<Journal, Memory>
         requires some { 1 ≤ quota }
         requires within { quota ≤ max_quota }
@@ -71,12 +72,14 @@ impl Journal {
         self.count(sender) < room
     }
 
-    /// Puts one entry at the end, and tells its number among its sender's. `frame` is the number of frames done.
+    /// Puts one entry at the end, and tells its number among its sender's. `frame` is the number of
+    /// frames done.
     pub fn stamp(&mut self, frame: u64, sender: u8, command: Command) -> u32
         requires room { HasRoom sender self.old }
         requires frame { last_frame self.old.entries ≤ frame }
         ensures seq { result ≡ next_seq sender self.old.entries }
-        ensures entries { self.new.entries ≡ self.old.entries ++ next_entry frame sender command self.old.entries ∷ [] }
+        ensures entries { self.new.entries ≡ self.old.entries
+            ++ next_entry frame sender command self.old.entries ∷ [] }
         ensures quota { self.new.quota ≡ self.old.quota }
     {
         let seq = self.counts[sender as usize];

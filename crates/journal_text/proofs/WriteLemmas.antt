@@ -9,7 +9,8 @@ use Rattle.text_lines.specs.Lines.{line_of, lines_then}
 use Rattle.journal_text.specs.JournalLines.{command_words, entry_line}
 
 -- a word before those of a command
-before_command : (word : List ℕ) (command : Command) → line_of (word ∷ command_words command) ≡ word ++ (32 ∷ line_of (command_words command))
+before_command : (word : List ℕ) (command : Command) →
+    line_of (word ∷ command_words command) ≡ word ++ (32 ∷ line_of (command_words command))
 before_command word (Down target verb) = refl
 before_command word (Up target verb) = refl
 before_command word (Hit target verb) = refl
@@ -23,15 +24,25 @@ before_command word (Release target outcome) = refl
 before_command word Quit = refl
 
 -- an entry's line, from its numbers on
-pub entry_line-parts : (e : Entry) → entry_line e ≡ decimal e.frame ++ (32 ∷ (decimal e.sender ++ (32 ∷ (decimal e.seq ++ (32 ∷ line_of (command_words e.command))))))
-entry_line-parts e = ap (λ (rest : List ℕ). decimal e.frame ++ (32 ∷ (decimal e.sender ++ (32 ∷ rest)))) (before_command (decimal e.seq) e.command)
+pub entry_line-parts : (e : Entry) →
+    entry_line e ≡ decimal e.frame
+    ++ (32 ∷ (decimal e.sender
+    ++ (32 ∷ (decimal e.seq ++ (32 ∷ line_of (command_words e.command))))))
+entry_line-parts e =
+    ap (λ (rest : List ℕ). decimal e.frame ++ (32 ∷ (decimal e.sender ++ (32 ∷ rest))))
+    (before_command (decimal e.seq) e.command)
 
 -- one line more is written
-pub line_written : (out line : List ℕ) (entries : List Entry) (place : ℕ) (e : Entry) (whole rest : List ℕ) → place < length entries → drop place entries ≡ e ∷ drop (place + 1) entries
-    → line ≡ entry_line e ++ (10 ∷ []) → out ++ lines_then entry_line (drop place entries) rest ≡ whole → (out ++ line) ++ lines_then entry_line (drop (place + 1) entries) rest ≡ whole
+pub line_written : (out line : List ℕ) (entries : List Entry) (place : ℕ) (e : Entry)
+    (whole rest : List ℕ) → place < length entries →
+    drop place entries ≡ e ∷ drop (place + 1) entries
+    → line ≡ entry_line e ++ (10 ∷ []) → out ++ lines_then entry_line (drop place entries)
+    rest ≡ whole → (out ++ line) ++ lines_then entry_line (drop (place + 1) entries) rest ≡ whole
 line_written out line entries place e whole rest there first is so_far =
     append_assoc out line (lines_then entry_line (drop (place + 1) entries) rest)
     ∙ ap (λ (l : List ℕ). out ++ (l ++ lines_then entry_line (drop (place + 1) entries) rest)) is
-    ∙ ap (λ (l : List ℕ). out ++ l) (append_assoc (entry_line e) (10 ∷ []) (lines_then entry_line (drop (place + 1) entries) rest))
+    ∙ ap (λ (l : List ℕ). out ++ l)
+    (append_assoc (entry_line e) (10 ∷ [])
+    (lines_then entry_line (drop (place + 1) entries) rest))
     ∙ sym (ap (λ (es : List Entry). out ++ lines_then entry_line es rest) first)
     ∙ so_far

@@ -1,4 +1,5 @@
--- A journal has one line for each entry: frame, sender, number, and the command with what it is for.
+-- A journal has one line for each entry: frame, sender, number, and the command with what it is
+-- for.
 -- A target is its number, a value the whole number, verbs and controls are their names.
 -- A line has a form by the shapes of its words. The word of the command decides which are due.
 -- "Journal" in docs/formats.md.
@@ -25,8 +26,10 @@ abbrev pub command_words : Command → List (List ℕ)
 command_words (Down target verb) = codes "down" ∷ target_word target ∷ verb_name verb ∷ []
 command_words (Up target verb) = codes "up" ∷ target_word target ∷ verb_name verb ∷ []
 command_words (Hit target verb) = codes "hit" ∷ target_word target ∷ verb_name verb ∷ []
-command_words (Set target control value) = codes "set" ∷ target_word target ∷ control_name control ∷ signed_decimal value ∷ []
-command_words (SetGlobal control value) = codes "gset" ∷ control_name control ∷ signed_decimal value ∷ []
+command_words (Set target control value) = codes "set" ∷ target_word target ∷ control_name control
+    ∷ signed_decimal value ∷ []
+command_words (SetGlobal control value) = codes "gset" ∷ control_name control ∷ signed_decimal value
+    ∷ []
 command_words (Get target control) = codes "get" ∷ target_word target ∷ control_name control ∷ []
 command_words (GetGlobal control) = codes "gget" ∷ control_name control ∷ []
 command_words (SaveLoop target name) = codes "save" ∷ target_word target ∷ name ∷ []
@@ -34,12 +37,14 @@ command_words (SaveSession name) = codes "session" ∷ name ∷ []
 command_words (Release target outcome) = codes "release" ∷ target_word target ∷ decimal outcome ∷ []
 command_words Quit = codes "quit" ∷ []
 
--- what a command says has words: an index of 8 bits, a value of 32 bits, a name, an outcome of 8 bits
+-- what a command says has words: an index of 8 bits, a value of 32 bits, a name, an outcome of 8
+-- bits
 abbrev pub HasWords : Command → Type 0
 HasWords (Down target verb) = IsTrue (is_target 256 target)
 HasWords (Up target verb) = IsTrue (is_target 256 target)
 HasWords (Hit target verb) = IsTrue (is_target 256 target)
-HasWords (Set target control value) = IsTrue (is_target 256 target) × (negsuc 2147483647 ≤ℤ value) × (value ≤ℤ pos 2147483647)
+HasWords (Set target control value) = IsTrue (is_target 256 target) × (negsuc 2147483647 ≤ℤ value)
+    × (value ≤ℤ pos 2147483647)
 HasWords (SetGlobal control value) = (negsuc 2147483647 ≤ℤ value) × (value ≤ℤ pos 2147483647)
 HasWords (Get target control) = IsTrue (is_target 256 target)
 HasWords (GetGlobal control) = ⊤
@@ -90,5 +95,6 @@ have_form word words form = bytes_eq form.word word && have_shapes form.shapes w
 -- the words are of one of the forms: three numbers, and a command
 abbrev pub is_form : List (List ℕ) → Bool
 is_form (frame ∷ sender ∷ seq ∷ word ∷ words) =
-    have_shapes (Number ∷ Number ∷ Number ∷ []) (frame ∷ sender ∷ seq ∷ []) && list_any (have_form word words) command_forms
+    have_shapes (Number ∷ Number ∷ Number ∷ []) (frame ∷ sender ∷ seq ∷ [])
+    && list_any (have_form word words) command_forms
 is_form _ = false

@@ -1,9 +1,9 @@
 -- A journal is `looper journal 1`, the lines of its entries and `end`.
--- Its entries are valid for the number of loops, none acts behind the last frame of a session, they are stamped, and no
--- sender has more than may be asked of it. There are at most 4194304 lines.
--- A line may stand where its entry is so, behind those before it. Where it may not, what is wrong is the first of these:
--- it is one line too many, it has no form, it is the line of no valid entry, the entry is out of order, it is one too many
--- of its sender.
+-- Its entries are valid for the number of loops, none acts behind the last frame of a session, they
+-- are stamped, and no sender has more than may be asked of it. There are at most 4194304 lines.
+-- A line may stand where its entry is so, behind those before it. Where it may not, what is wrong
+-- is the first of these: it is one line too many, it has no form, it is the line of no valid entry,
+-- the entry is out of order, it is one too many of its sender.
 -- "Journal" in docs/formats.md.
 use Rattle.std.specs.Prelude.{ℕ, ◌≡◌, ◌≢◌, ◌≤◌, ◌<◌, ◌^◌, ◌==◌, IsTrue, IsFalse, if◌then◌else◌, List, length, codes, ⊤}
 use Rattle.std.specs.List.{AllByRecursion}
@@ -48,13 +48,15 @@ pub record MayStand (loops : ℕ) (before : List Entry) (e : Entry) : Type 0 whe
 -- the line has no form, or it has one and is the line of no entry
 abbrev pub HasNoEntry : ℕ → List ℕ → TextKind → Type 0
 HasNoEntry loops line Form = IsFalse (is_form (words_in line))
-HasNoEntry loops line Value = IsTrue (is_form (words_in line)) × ((e : Entry) → HasLine loops e → line ≢ entry_line e)
+HasNoEntry loops line Value = IsTrue (is_form (words_in line))
+    × ((e : Entry) → HasLine loops e → line ≢ entry_line e)
 HasNoEntry loops line _ = ⊥
 
 -- the entry is out of order, or it is one too many of its sender
 abbrev pub CannotFollow : List Entry → Entry → TextKind → Type 0
 CannotFollow before e Order = IsFalse (may_be_next before e)
-CannotFollow before e TooMany = IsTrue (may_be_next before e) × (most_of e.sender ≤ length (entries_of e.sender before))
+CannotFollow before e TooMany = IsTrue (may_be_next before e)
+    × (most_of e.sender ≤ length (entries_of e.sender before))
 CannotFollow before e _ = ⊥
 
 -- what is wrong with a line behind those of these
@@ -64,7 +66,8 @@ pub data IsWrong (loops : ℕ) (before : List Entry) (line : List ℕ) (kind : T
   -- it has no form, or is the line of no entry
   no_entry : length before < max_lines → HasNoEntry loops line kind → IsWrong loops before line kind
   -- its entry may not follow
-  no_place : length before < max_lines → (e : Entry) → HasLine loops e → line ≡ entry_line e → CannotFollow before e kind → IsWrong loops before line kind
+  no_place : length before < max_lines → (e : Entry) → HasLine loops e → line ≡ entry_line e →
+      CannotFollow before e kind → IsWrong loops before line kind
 
 -- journals as a form of text: `end` may stand behind any entry
 abbrev pub journal_form : ℕ → TextForm Entry

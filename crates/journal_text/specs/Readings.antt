@@ -1,4 +1,5 @@
--- While a journal is read line by line, a line is taken behind the entries so far, or it is wrong there.
+-- While a journal is read line by line, a line is taken behind the entries so far, or it is wrong
+-- there.
 -- "Journal" in docs/formats.md.
 use Rattle.std.specs.Prelude.{ℕ, ◌≡◌, List, [], ◌∷◌, ◌++◌, ⊤}
 use Rattle.sl_commands.specs.declared.entry.Entry.{Entry}
@@ -11,7 +12,8 @@ use Rattle.journal_text.specs.declared.reader.Refused.{Refused}
 use Rattle.journal_text.specs.declared.reader.Refused.TheVariants.{Wrong, Memory as NoMemory}
 
 -- the line is that of an entry that may stand behind those so far, and it now does
-pub record IsTaken (loops : ℕ) (before : List Entry) (line : List ℕ) (after : List Entry) : Type 0 where
+pub record IsTaken (loops : ℕ) (before : List Entry) (line : List ℕ)
+    (after : List Entry) : Type 0 where
   pub entry : Entry
   pub spelled : line ≡ entry_line entry
   pub may : MayStand loops before entry

@@ -1,4 +1,5 @@
--- While a journal is read, the entries so far are kept with the frame of the last one and with how many each sender has.
+-- While a journal is read, the entries so far are kept with the frame of the last one and with how
+-- many each sender has.
 -- "Journal" in docs/formats.md.
 use Rattle.std.specs.Prelude.{◌≡◌, ◌≤◌, List, length, slice_index}
 use Rattle.sl_commands.specs.declared.entry.Entry.{Entry}

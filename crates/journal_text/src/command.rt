@@ -15,7 +15,8 @@ use text_lines::{behind, number_of, read_integer, target_of};
 
 fn down_of(words: &[&[u8]]) -> Option<Command>
     ensures found { IfSome result (λ command. Spell (map (λ w. w.now) words.now) command) }
-    ensures only { IfNone result ((target : Target) (verb : Verb) → ¬ Spell (map (λ w. w.now) words.now) (Command.Down target verb)) }
+    ensures only { IfNone result ((target : Target) (verb : Verb) →
+        ¬ Spell (map (λ w. w.now) words.now) (Command.Down target verb)) }
 {
     match behind(words, b"down")? {
         [target, verb] => Some(Command::Down(target_of(target)?, verb_of(verb)?)),
@@ -25,7 +26,8 @@ fn down_of(words: &[&[u8]]) -> Option<Command>
 
 fn up_of(words: &[&[u8]]) -> Option<Command>
     ensures found { IfSome result (λ command. Spell (map (λ w. w.now) words.now) command) }
-    ensures only { IfNone result ((target : Target) (verb : Verb) → ¬ Spell (map (λ w. w.now) words.now) (Command.Up target verb)) }
+    ensures only { IfNone result ((target : Target) (verb : Verb) →
+        ¬ Spell (map (λ w. w.now) words.now) (Command.Up target verb)) }
 {
     match behind(words, b"up")? {
         [target, verb] => Some(Command::Up(target_of(target)?, verb_of(verb)?)),
@@ -35,7 +37,8 @@ fn up_of(words: &[&[u8]]) -> Option<Command>
 
 fn hit_of(words: &[&[u8]]) -> Option<Command>
     ensures found { IfSome result (λ command. Spell (map (λ w. w.now) words.now) command) }
-    ensures only { IfNone result ((target : Target) (verb : Verb) → ¬ Spell (map (λ w. w.now) words.now) (Command.Hit target verb)) }
+    ensures only { IfNone result ((target : Target) (verb : Verb) →
+        ¬ Spell (map (λ w. w.now) words.now) (Command.Hit target verb)) }
 {
     match behind(words, b"hit")? {
         [target, verb] => Some(Command::Hit(target_of(target)?, verb_of(verb)?)),
@@ -45,7 +48,8 @@ fn hit_of(words: &[&[u8]]) -> Option<Command>
 
 fn set_of(words: &[&[u8]]) -> Option<Command>
     ensures found { IfSome result (λ command. Spell (map (λ w. w.now) words.now) command) }
-    ensures only { IfNone result ((target : Target) (control : Control) (value : ℤ) → ¬ Spell (map (λ w. w.now) words.now) (Command.Set target control value)) }
+    ensures only { IfNone result ((target : Target) (control : Control) (value : ℤ) →
+        ¬ Spell (map (λ w. w.now) words.now) (Command.Set target control value)) }
 {
     match behind(words, b"set")? {
         [target, control, value] => Some(Command::Set(
@@ -59,7 +63,8 @@ fn set_of(words: &[&[u8]]) -> Option<Command>
 
 fn set_global_of(words: &[&[u8]]) -> Option<Command>
     ensures found { IfSome result (λ command. Spell (map (λ w. w.now) words.now) command) }
-    ensures only { IfNone result ((control : Control) (value : ℤ) → ¬ Spell (map (λ w. w.now) words.now) (Command.SetGlobal control value)) }
+    ensures only { IfNone result ((control : Control) (value : ℤ) →
+        ¬ Spell (map (λ w. w.now) words.now) (Command.SetGlobal control value)) }
 {
     match behind(words, b"gset")? {
         [control, value] => Some(Command::SetGlobal(control_of(control)?, read_integer(value)?)),
@@ -69,7 +74,8 @@ fn set_global_of(words: &[&[u8]]) -> Option<Command>
 
 fn get_of(words: &[&[u8]]) -> Option<Command>
     ensures found { IfSome result (λ command. Spell (map (λ w. w.now) words.now) command) }
-    ensures only { IfNone result ((target : Target) (control : Control) → ¬ Spell (map (λ w. w.now) words.now) (Command.Get target control)) }
+    ensures only { IfNone result ((target : Target) (control : Control) →
+        ¬ Spell (map (λ w. w.now) words.now) (Command.Get target control)) }
 {
     match behind(words, b"get")? {
         [target, control] => Some(Command::Get(target_of(target)?, control_of(control)?)),
@@ -79,7 +85,8 @@ fn get_of(words: &[&[u8]]) -> Option<Command>
 
 fn get_global_of(words: &[&[u8]]) -> Option<Command>
     ensures found { IfSome result (λ command. Spell (map (λ w. w.now) words.now) command) }
-    ensures only { IfNone result ((control : Control) → ¬ Spell (map (λ w. w.now) words.now) (Command.GetGlobal control)) }
+    ensures only { IfNone result
+        ((control : Control) → ¬ Spell (map (λ w. w.now) words.now) (Command.GetGlobal control)) }
 {
     match behind(words, b"gget")? {
         [control] => Some(Command::GetGlobal(control_of(control)?)),
@@ -89,7 +96,8 @@ fn get_global_of(words: &[&[u8]]) -> Option<Command>
 
 fn save_of(words: &[&[u8]]) -> Option<Command>
     ensures found { IfSome result (λ command. Spell (map (λ w. w.now) words.now) command) }
-    ensures only { IfNone result ((target : Target) (name : List ℕ) → ¬ Spell (map (λ w. w.now) words.now) (Command.SaveLoop target name)) }
+    ensures only { IfNone result ((target : Target) (name : List ℕ) →
+        ¬ Spell (map (λ w. w.now) words.now) (Command.SaveLoop target name)) }
 {
     match behind(words, b"save")? {
         [target, name] => Some(Command::SaveLoop(target_of(target)?, Name::read(name)?)),
@@ -99,7 +107,8 @@ fn save_of(words: &[&[u8]]) -> Option<Command>
 
 fn session_of(words: &[&[u8]]) -> Option<Command>
     ensures found { IfSome result (λ command. Spell (map (λ w. w.now) words.now) command) }
-    ensures only { IfNone result ((name : List ℕ) → ¬ Spell (map (λ w. w.now) words.now) (Command.SaveSession name)) }
+    ensures only { IfNone result
+        ((name : List ℕ) → ¬ Spell (map (λ w. w.now) words.now) (Command.SaveSession name)) }
 {
     match behind(words, b"session")? {
         [name] => Some(Command::SaveSession(Name::read(name)?)),
@@ -109,7 +118,8 @@ fn session_of(words: &[&[u8]]) -> Option<Command>
 
 fn release_of(words: &[&[u8]]) -> Option<Command>
     ensures found { IfSome result (λ command. Spell (map (λ w. w.now) words.now) command) }
-    ensures only { IfNone result ((target : Target) (outcome : ℕ) → ¬ Spell (map (λ w. w.now) words.now) (Command.Release target outcome)) }
+    ensures only { IfNone result ((target : Target) (outcome : ℕ) →
+        ¬ Spell (map (λ w. w.now) words.now) (Command.Release target outcome)) }
 {
     match behind(words, b"release")? {
         [target, outcome] => {
@@ -134,7 +144,8 @@ fn quit_of(words: &[&[u8]]) -> Option<Command>
 /// The command that words spell, whatever it is allowed for.
 pub fn command_of(words: &[&[u8]]) -> Option<Command>
     ensures found { IfSome result (λ command. Spell (map (λ w. w.now) words.now) command) }
-    ensures only { IfNone result ((command : Command) → ¬ Spell (map (λ w. w.now) words.now) command) }
+    ensures only { IfNone result
+        ((command : Command) → ¬ Spell (map (λ w. w.now) words.now) command) }
 {
     if let Some(command) = down_of(words) {
         return Some(command);

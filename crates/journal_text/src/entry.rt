@@ -14,8 +14,10 @@ use text_lines::{number_of, words_of};
 /// The entry that words spell, where it may stand in a journal for so many loops.
 fn entry_of(words: &[&[u8]], loops: u8) -> Option<Entry>
     requires { loops ≤ 16 }
-    ensures found { IfSome result (λ e. (map (λ w. w.now) words.now ≡ entry_words e) × HasLine loops e) }
-    ensures only { IfNone result ((e : Entry) → HasLine loops e → map (λ w. w.now) words.now ≢ entry_words e) }
+    ensures found { IfSome result (λ e. (map (λ w. w.now) words.now ≡ entry_words e)
+        × HasLine loops e) }
+    ensures only { IfNone result ((e : Entry) → HasLine loops e →
+        map (λ w. w.now) words.now ≢ entry_words e) }
 {
     match words {
         [frame, sender, seq, command @ ..] => {
@@ -39,7 +41,8 @@ fn entry_of(words: &[&[u8]], loops: u8) -> Option<Entry>
     }
 }
 
-/// Reads one line, for so many loops. An error is `Form` where the line has no form, and else `Value`.
+/// Reads one line, for so many loops. An error is `Form` where the line has no form, and else
+/// `Value`.
 pub fn read_line(line: &[u8], loops: u8) -> Result<Entry, TextKind>
     requires { loops ≤ 16 }
     ensures found { IfOk result (λ e. (line.now ≡ entry_line e) × HasLine loops e) }

@@ -16,8 +16,10 @@ fn have_form(word: &[u8], words: &[&[u8]], due: &[u8], shapes: &[Shape]) -> bool
 
 /// The words have the form of what is done to a loop.
 fn is_play(word: &[u8], words: &[&[u8]]) -> bool
-    ensures { let have = have_form word.now (map (λ w. w.now) words.now) in let shapes = Integer ∷ Word ∷ [] in
-        result ≡ (have (form_of (codes "down") shapes) || (have (form_of (codes "up") shapes) || have (form_of (codes "hit") shapes))) }
+    ensures { let have = have_form word.now (map (λ w. w.now) words.now) in let shapes =
+        Integer ∷ Word ∷ [] in
+        result ≡ (have (form_of (codes "down") shapes)
+        || (have (form_of (codes "up") shapes) || have (form_of (codes "hit") shapes))) }
 {
     let shapes = [Shape::Integer, Shape::Word];
     have_form(word, words, b"down", &shapes)
@@ -28,8 +30,10 @@ fn is_play(word: &[u8], words: &[&[u8]]) -> bool
 /// The words have the form of what sets or reads a control.
 fn is_setting(word: &[u8], words: &[&[u8]]) -> bool
     ensures { let have = have_form word.now (map (λ w. w.now) words.now) in
-        result ≡ (have (form_of (codes "set") (Integer ∷ Word ∷ Integer ∷ [])) || (have (form_of (codes "gset") (Word ∷ Integer ∷ []))
-        || (have (form_of (codes "get") (Integer ∷ Word ∷ [])) || have (form_of (codes "gget") (Word ∷ []))))) }
+        result ≡ (have (form_of (codes "set") (Integer ∷ Word ∷ Integer ∷ []))
+        || (have (form_of (codes "gset") (Word ∷ Integer ∷ []))
+        || (have (form_of (codes "get") (Integer ∷ Word ∷ []))
+        || have (form_of (codes "gget") (Word ∷ []))))) }
 {
     have_form(
         word,
@@ -44,8 +48,10 @@ fn is_setting(word: &[u8], words: &[&[u8]]) -> bool
 /// The words have the form of what saves, or of what ends a run.
 fn is_save(word: &[u8], words: &[&[u8]]) -> bool
     ensures { let have = have_form word.now (map (λ w. w.now) words.now) in
-        result ≡ (have (form_of (codes "save") (Integer ∷ Word ∷ [])) || (have (form_of (codes "session") (Word ∷ []))
-        || (have (form_of (codes "release") (Integer ∷ Number ∷ [])) || have (form_of (codes "quit") [])))) }
+        result ≡ (have (form_of (codes "save") (Integer ∷ Word ∷ []))
+        || (have (form_of (codes "session") (Word ∷ []))
+        || (have (form_of (codes "release") (Integer ∷ Number ∷ []))
+        || have (form_of (codes "quit") [])))) }
 {
     have_form(word, words, b"save", &[Shape::Integer, Shape::Word])
         || have_form(word, words, b"session", &[Shape::Word])

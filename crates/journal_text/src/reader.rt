@@ -64,8 +64,10 @@ fn reason(line: u32, refused: Refused) -> ReadText
 /// What the lines behind the header say.
 fn read_lines(alloc: Global, lines: &[u8], loops: u8) -> Result<Entries, ReadText>
     requires { loops ≤ 16 }
-    ensures found { IfOk result (λ entries. IsText (journal_form loops) (journal_header ++ (10 ∷ lines.now)) entries) }
-    ensures fault { IfErr result (IsReason (journal_form loops) (journal_header ++ (10 ∷ lines.now))) }
+    ensures found { IfOk result
+        (λ entries. IsText (journal_form loops) (journal_header ++ (10 ∷ lines.now)) entries) }
+    ensures fault { IfErr result
+        (IsReason (journal_form loops) (journal_header ++ (10 ∷ lines.now))) }
 {
     let mut so_far = SoFar::new(alloc);
     let mut rest = lines;
@@ -86,11 +88,13 @@ fn read_lines(alloc: Global, lines: &[u8], loops: u8) -> Result<Entries, ReadTex
     Err(fault(so_far.count() + 2, TextKind::Ending))
 }
 
-/// Reads a journal for so many loops, 16 at most: its entries, or its first fault. `Memory` may come at any text.
+/// Reads a journal for so many loops, 16 at most: its entries, or its first fault. `Memory` may
+/// come at any text.
 pub fn read_journal(alloc: Global, bytes: &[u8], loops: u8) -> Result<Entries, ReadText>
     requires { loops ≤ 16 }
     ensures found { IfOk result (λ entries. IsJournal loops bytes.now entries) }
-    ensures one { IfOk result (λ entries. (others : List Entry) → IsJournal loops bytes.now others → others ≡ entries) }
+    ensures one { IfOk result (λ entries. (others : List Entry) → IsJournal loops bytes.now others →
+        others ≡ entries) }
     ensures fault { IfErr result (IsReason (journal_form loops) bytes.now) }
     ensures only { IfErr result (DeniesAll (λ entries. IsJournal loops bytes.now entries)) }
 {

@@ -53,7 +53,8 @@ impl SoFar {
     /// Why the entry may not follow, or None where it may. Its sender is 0, 1 or 2.
     pub fn refusal(&self, entry: &Entry) -> Option<TextKind>
         requires { entry.now.sender ≤ 2 }
-        ensures may { IfNone result (IsTrue (may_be_next self.now entry.now) × (length (entries_of entry.now.sender self.now) < most_of entry.now.sender)) }
+        ensures may { IfNone result (IsTrue (may_be_next self.now entry.now)
+            × (length (entries_of entry.now.sender self.now) < most_of entry.now.sender)) }
         ensures wrong { IfSome result (CannotFollow self.now entry.now) }
     {
         let count = self.counts[entry.sender as usize];

@@ -11,7 +11,8 @@ use sl_commands::{Command, Control, Entry, Target, Verb};
 use std::alloc::{AllocError, Global};
 
 fn write_down(out: &mut String, target: Target, verb: Verb) -> Result<(), AllocError>
-    ensures { OnOk result (string_bytes out.new ≡ string_bytes out.old ++ line_of (command_words (Command.Down target verb))) }
+    ensures { OnOk result (string_bytes out.new ≡ string_bytes out.old
+        ++ line_of (command_words (Command.Down target verb))) }
 {
     let number = target.number();
     let name = verb.name();
@@ -19,7 +20,8 @@ fn write_down(out: &mut String, target: Target, verb: Verb) -> Result<(), AllocE
 }
 
 fn write_up(out: &mut String, target: Target, verb: Verb) -> Result<(), AllocError>
-    ensures { OnOk result (string_bytes out.new ≡ string_bytes out.old ++ line_of (command_words (Command.Up target verb))) }
+    ensures { OnOk result (string_bytes out.new ≡ string_bytes out.old
+        ++ line_of (command_words (Command.Up target verb))) }
 {
     let number = target.number();
     let name = verb.name();
@@ -27,7 +29,8 @@ fn write_up(out: &mut String, target: Target, verb: Verb) -> Result<(), AllocErr
 }
 
 fn write_hit(out: &mut String, target: Target, verb: Verb) -> Result<(), AllocError>
-    ensures { OnOk result (string_bytes out.new ≡ string_bytes out.old ++ line_of (command_words (Command.Hit target verb))) }
+    ensures { OnOk result (string_bytes out.new ≡ string_bytes out.old
+        ++ line_of (command_words (Command.Hit target verb))) }
 {
     let number = target.number();
     let name = verb.name();
@@ -40,7 +43,8 @@ fn write_set(
     control: Control,
     value: i32,
 ) -> Result<(), AllocError>
-    ensures { OnOk result (string_bytes out.new ≡ string_bytes out.old ++ line_of (command_words (Command.Set target control value))) }
+    ensures { OnOk result (string_bytes out.new ≡ string_bytes out.old
+        ++ line_of (command_words (Command.Set target control value))) }
 {
     let number = target.number();
     let name = control.name();
@@ -48,14 +52,16 @@ fn write_set(
 }
 
 fn write_set_global(out: &mut String, control: Control, value: i32) -> Result<(), AllocError>
-    ensures { OnOk result (string_bytes out.new ≡ string_bytes out.old ++ line_of (command_words (Command.SetGlobal control value))) }
+    ensures { OnOk result (string_bytes out.new ≡ string_bytes out.old
+        ++ line_of (command_words (Command.SetGlobal control value))) }
 {
     let name = control.name();
     write!(out, "gset {name} {value}")
 }
 
 fn write_get(out: &mut String, target: Target, control: Control) -> Result<(), AllocError>
-    ensures { OnOk result (string_bytes out.new ≡ string_bytes out.old ++ line_of (command_words (Command.Get target control))) }
+    ensures { OnOk result (string_bytes out.new ≡ string_bytes out.old
+        ++ line_of (command_words (Command.Get target control))) }
 {
     let number = target.number();
     let name = control.name();
@@ -63,14 +69,16 @@ fn write_get(out: &mut String, target: Target, control: Control) -> Result<(), A
 }
 
 fn write_get_global(out: &mut String, control: Control) -> Result<(), AllocError>
-    ensures { OnOk result (string_bytes out.new ≡ string_bytes out.old ++ line_of (command_words (Command.GetGlobal control))) }
+    ensures { OnOk result (string_bytes out.new ≡ string_bytes out.old
+        ++ line_of (command_words (Command.GetGlobal control))) }
 {
     let name = control.name();
     write!(out, "gget {name}")
 }
 
 fn write_save(out: &mut String, target: Target, name: &Name) -> Result<(), AllocError>
-    ensures { OnOk result (string_bytes out.new ≡ string_bytes out.old ++ line_of (command_words (Command.SaveLoop target name.now))) }
+    ensures { OnOk result (string_bytes out.new ≡ string_bytes out.old
+        ++ line_of (command_words (Command.SaveLoop target name.now))) }
 {
     let number = target.number();
     let name = name.as_str();
@@ -78,14 +86,16 @@ fn write_save(out: &mut String, target: Target, name: &Name) -> Result<(), Alloc
 }
 
 fn write_session(out: &mut String, name: &Name) -> Result<(), AllocError>
-    ensures { OnOk result (string_bytes out.new ≡ string_bytes out.old ++ line_of (command_words (Command.SaveSession name.now))) }
+    ensures { OnOk result (string_bytes out.new ≡ string_bytes out.old
+        ++ line_of (command_words (Command.SaveSession name.now))) }
 {
     let name = name.as_str();
     write!(out, "session {name}")
 }
 
 fn write_release(out: &mut String, target: Target, outcome: u8) -> Result<(), AllocError>
-    ensures { OnOk result (string_bytes out.new ≡ string_bytes out.old ++ line_of (command_words (Command.Release target outcome))) }
+    ensures { OnOk result (string_bytes out.new ≡ string_bytes out.old
+        ++ line_of (command_words (Command.Release target outcome))) }
 {
     let number = target.number();
     write!(out, "release {number} {outcome}")
@@ -93,7 +103,8 @@ fn write_release(out: &mut String, target: Target, outcome: u8) -> Result<(), Al
 
 /// Writes the words of a command.
 fn write_command(out: &mut String, command: &Command) -> Result<(), AllocError>
-    ensures { OnOk result (string_bytes out.new ≡ string_bytes out.old ++ line_of (command_words command.now)) }
+    ensures { OnOk result
+        (string_bytes out.new ≡ string_bytes out.old ++ line_of (command_words command.now)) }
 {
     match command {
         Command::Down(target, verb) => write_down(out, *target, *verb),
@@ -112,7 +123,8 @@ fn write_command(out: &mut String, command: &Command) -> Result<(), AllocError>
 
 /// Writes the line of an entry, with its line feed.
 fn write_entry(out: &mut String, entry: &Entry) -> Result<(), AllocError>
-    ensures { OnOk result (string_bytes out.new ≡ string_bytes out.old ++ (entry_line entry.now ++ (10 ∷ []))) }
+    ensures { OnOk result
+        (string_bytes out.new ≡ string_bytes out.old ++ (entry_line entry.now ++ (10 ∷ []))) }
 {
     let frame = entry.frame;
     let sender = entry.sender;

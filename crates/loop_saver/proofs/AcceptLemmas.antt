@@ -15,26 +15,33 @@ use Rattle.loop_saver.specs.Accepting.{WritesFirst, Writes, GoesOn, MayWant}
 
 -- the file of a list that isn't empty
 pub some_list :
-    (rate : ℕ) (name bytes : List ℕ) (list : List Sound) → 0 < length list → bytes ≡ wav_text list 2 24 rate →
+    (rate : ℕ) (name bytes : List ℕ) (list : List Sound) → 0 < length list →
+    bytes ≡ wav_text list 2 24 rate →
     record { name = name; bytes = bytes } ∷ [] ≡ list_file rate name list
 some_list rate name bytes [] some are = absurd (omega arith)
-some_list rate name bytes (x ∷ xs) some are = ap (λ b. (let f : SavedFile = record { name = name; bytes = b } in f) ∷ []) are
+some_list rate name bytes (x ∷ xs) some are =
+    ap (λ b. (let f : SavedFile = record { name = name; bytes = b } in f) ∷ []) are
 
 -- what a keeper has after more files
-pub put_all-append : (fs gs : List SavedFile) (files : Option Files) → put_all (fs ++ gs) files ≡ put_all gs (put_all fs files)
+pub put_all-append : (fs gs : List SavedFile) (files : Option Files) →
+    put_all (fs ++ gs) files ≡ put_all gs (put_all fs files)
 put_all-append [] gs files = refl
 put_all-append (f ∷ fs) gs files = put_all-append fs gs _
 
 -- none was written
-pub writes_none : {P : Type 0} (k : Keeper P) (fs : List SavedFile) (old : P) → WritesFirst fs (k.files old) (k.files old)
+pub writes_none : {P : Type 0} (k : Keeper P) (fs : List SavedFile) (old : P) →
+    WritesFirst fs (k.files old) (k.files old)
 writes_none k fs old = record { written = []; rest = fs; whole = refl; files = refl }
 
 -- all were written
-pub writes_all : (fs : List SavedFile) (old new : Option Files) → new ≡ put_all fs old → WritesFirst fs old new
-writes_all fs old new files = record { written = fs; rest = []; whole = sym (append-nil fs); files = files }
+pub writes_all : (fs : List SavedFile) (old new : Option Files) → new ≡ put_all fs old →
+    WritesFirst fs old new
+writes_all fs old new files =
+    record { written = fs; rest = []; whole = sym (append-nil fs); files = files }
 
 -- the first of these files were written, and more would have been
-pub writes_before : (fs gs : List SavedFile) (old new : Option Files) → WritesFirst fs old new → WritesFirst (fs ++ gs) old new
+pub writes_before : (fs gs : List SavedFile) (old new : Option Files) → WritesFirst fs old new →
+    WritesFirst (fs ++ gs) old new
 writes_before fs gs old new w = record {
   written = w.written;
   rest = w.rest ++ gs;
@@ -43,7 +50,8 @@ writes_before fs gs old new w = record {
 }
 
 -- the first of these files were written behind others
-pub writes_behind : (fs gs : List SavedFile) (old mid new : Option Files) → mid ≡ put_all fs old → WritesFirst gs mid new → WritesFirst (fs ++ gs) old new
+pub writes_behind : (fs gs : List SavedFile) (old mid new : Option Files) → mid ≡ put_all fs old →
+    WritesFirst gs mid new → WritesFirst (fs ++ gs) old new
 writes_behind fs gs old mid new all w = record {
   written = fs ++ w.written;
   rest = w.rest;
@@ -57,28 +65,37 @@ pub writes_more :
     Writes k fs old mid Written → Writes k gs mid new now → Writes k (fs ++ gs) old new now
 writes_more k fs gs old mid new Written first next =
     (next.0 ∙ ap (put_all gs) first.0 ∙ sym (put_all-append fs gs (k.files old)), next.1 ∙ first.1)
-writes_more k fs gs old mid new Failed first next =
-    (writes_behind fs gs _ _ _ first.0 next.0, subst (λ n. Rose n (k.write_faults new)) first.1 next.1)
-writes_more k fs gs old mid new Memory first next = (writes_behind fs gs _ _ _ first.0 next.0, next.1 ∙ first.1)
+writes_more k fs gs old mid new Failed first next = (
+  writes_behind fs gs _ _ _ first.0 next.0,
+  subst (λ n. Rose n (k.write_faults new)) first.1 next.1,
+)
+writes_more k fs gs old mid new Memory first next =
+    (writes_behind fs gs _ _ _ first.0 next.0, next.1 ∙ first.1)
 
 -- a write that failed ends the writing, and so does want of memory
 pub writes_failed :
-    {P : Type 0} (k : Keeper P) (fs gs : List SavedFile) (old new : P) → Writes k fs old new Failed → Writes k (fs ++ gs) old new Failed
+    {P : Type 0} (k : Keeper P) (fs gs : List SavedFile) (old new : P) →
+    Writes k fs old new Failed → Writes k (fs ++ gs) old new Failed
 writes_failed k fs gs old new w = (writes_before fs gs _ _ w.0, w.1)
 
 pub writes_wanted :
-    {P : Type 0} (k : Keeper P) (fs gs : List SavedFile) (old new : P) → Writes k fs old new Memory → Writes k (fs ++ gs) old new Memory
+    {P : Type 0} (k : Keeper P) (fs gs : List SavedFile) (old new : P) →
+    Writes k fs old new Memory → Writes k (fs ++ gs) old new Memory
 writes_wanted k fs gs old new w = (writes_before fs gs _ _ w.0, w.1)
 
 -- memory may be wanted behind all writes
 pub wants_behind :
     {P : Type 0} (k : Keeper P) (fs : List SavedFile) (old new : P) (before now after : Ending) →
     GoesOn k fs old new before now → MayWant now after → GoesOn k fs old new before after
-wants_behind k fs old new Written Written after writes (inl same) = subst (GoesOn k fs old new Written) (sym same) writes
+wants_behind k fs old new Written Written after writes (inl same) =
+    subst (GoesOn k fs old new Written) (sym same) writes
 wants_behind k fs old new Written Written after writes (inr wanted) =
-    subst (GoesOn k fs old new Written) (sym wanted) (writes_all fs (k.files old) (k.files new) writes.0, writes.1)
-wants_behind k fs old new Written Failed after writes same = subst (GoesOn k fs old new Written) (sym same) writes
-wants_behind k fs old new Written Memory after writes same = subst (GoesOn k fs old new Written) (sym same) writes
+    subst (GoesOn k fs old new Written) (sym wanted)
+    (writes_all fs (k.files old) (k.files new) writes.0, writes.1)
+wants_behind k fs old new Written Failed after writes same =
+    subst (GoesOn k fs old new Written) (sym same) writes
+wants_behind k fs old new Written Memory after writes same =
+    subst (GoesOn k fs old new Written) (sym same) writes
 wants_behind k fs old new Failed Written after writes wants = absurd (cc (writes.0))
 wants_behind k fs old new Failed Failed after writes same = (same, writes.1)
 wants_behind k fs old new Failed Memory after writes same = absurd (cc (writes.0))
@@ -88,8 +105,11 @@ wants_behind k fs old new Memory Memory after writes same = (same, writes.1)
 
 -- memory may be wanted where no file is due
 pub wants_alone :
-    {P : Type 0} (k : Keeper P) (old : P) (before after : Ending) → MayWant before after → GoesOn k [] old old before after
-wants_alone k old Written after (inl same) = subst (GoesOn k [] old old Written) (sym same) (refl, refl)
-wants_alone k old Written after (inr wanted) = subst (GoesOn k [] old old Written) (sym wanted) (writes_none k [] old, refl)
+    {P : Type 0} (k : Keeper P) (old : P) (before after : Ending) → MayWant before after →
+    GoesOn k [] old old before after
+wants_alone k old Written after (inl same) =
+    subst (GoesOn k [] old old Written) (sym same) (refl, refl)
+wants_alone k old Written after (inr wanted) =
+    subst (GoesOn k [] old old Written) (sym wanted) (writes_none k [] old, refl)
 wants_alone k old Failed after same = (same, refl)
 wants_alone k old Memory after same = (same, refl)

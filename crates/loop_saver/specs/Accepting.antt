@@ -1,5 +1,6 @@
--- Files are written one after another, up to the first that isn't: the keeper's count of writes rose there, or memory was
--- wanted. A save ends 0 where all its files are written, 1 where a write failed since its head, and 4 where memory was wanted.
+-- Files are written one after another, up to the first that isn't: the keeper's count of writes
+-- rose there, or memory was wanted. A save ends 0 where all its files are written, 1 where a write
+-- failed since its head, and 4 where memory was wanted.
 -- "Files of a save" in docs/formats.md.
 use Rattle.std.specs.Prelude.{◌≡◌, ◌⊎◌, ℕ, List, [], ◌++◌, Option, Some, None}
 use Rattle.sl_base.specs.Counting.{Rose}
@@ -24,9 +25,12 @@ pub record WritesFirst (fs : List SavedFile) (old new : Option Files) : Type 0 w
 
 -- what writing files one after another does to a keeper, by how it ended
 abbrev pub Writes : {P : Type 0} → Keeper P → List SavedFile → P → P → Ending → Type 0
-Writes k fs old new Written = (k.files new ≡ put_all fs (k.files old)) × (k.write_faults new ≡ k.write_faults old)
-Writes k fs old new Failed = WritesFirst fs (k.files old) (k.files new) × Rose (k.write_faults old) (k.write_faults new)
-Writes k fs old new Memory = WritesFirst fs (k.files old) (k.files new) × (k.write_faults new ≡ k.write_faults old)
+Writes k fs old new Written = (k.files new ≡ put_all fs (k.files old))
+    × (k.write_faults new ≡ k.write_faults old)
+Writes k fs old new Failed = WritesFirst fs (k.files old) (k.files new)
+    × Rose (k.write_faults old) (k.write_faults new)
+Writes k fs old new Memory = WritesFirst fs (k.files old) (k.files new)
+    × (k.write_faults new ≡ k.write_faults old)
 
 -- the same in a save that has come so far: behind what wasn't written nothing is
 abbrev pub GoesOn : {P : Type 0} → Keeper P → List SavedFile → P → P → Ending → Ending → Type 0
@@ -39,25 +43,31 @@ abbrev pub MayWant : Ending → Ending → Type 0
 MayWant Written now = (now ≡ Written) ⊎ (now ≡ Memory)
 MayWant before now = now ≡ before
 
--- what a part does: the file of a list that it shows to be whole is written, and its frames are held
-pub record TakesPart {P : Type 0} (k : Keeper P) (fs : List SavedFile) (old new : P) (before : SavingOf) (after : Option SavingOf) (with_ending : Ending → SavingOf) : Type 0 where
+-- what a part does: the file of a list that it shows to be whole is written, and its frames are
+-- held
+pub record TakesPart {P : Type 0} (k : Keeper P) (fs : List SavedFile) (old new : P)
+    (before : SavingOf) (after : Option SavingOf) (with_ending : Ending → SavingOf) : Type 0 where
   pub ending : Ending
   pub writes : GoesOn k fs old new before.ending ending
   pub saving : after ≡ Some (with_ending ending)
 
 -- what an end does: the files that are left are written, and the save is over
-pub record TakesEnd {P : Type 0} (k : Keeper P) (fs : List SavedFile) (old new : P) (before : SavingOf) (after : Option SavingOf) (answer : Saved) : Type 0 where
+pub record TakesEnd {P : Type 0} (k : Keeper P) (fs : List SavedFile) (old new : P)
+    (before : SavingOf) (after : Option SavingOf) (answer : Saved) : Type 0 where
   pub ending : Ending
   pub writes : GoesOn k fs old new before.ending ending
   pub over : after ≡ None
   pub answer_is : answer ≡ Finished before.underway.target (ending_number ending)
 
 -- what a saver at this rate does with a block, to its save and to the keeper
-abbrev pub Accepts : {P : Type 0} → Keeper P → ℕ → Block → Option SavingOf → Option SavingOf → P → P → Saved → Type 0
+abbrev pub Accepts : {P : Type 0} → Keeper P → ℕ → Block → Option SavingOf → Option SavingOf → P →
+    P → Saved → Type 0
 Accepts k rate (Head save name target settings) before after old new answer =
     (after ≡ Some (begins name target settings)) × (new ≡ old) × (answer ≡ Continue)
 Accepts k rate (Part save index frames) (Some s) after old new answer =
-    TakesPart k (due_at_part rate index s) old new s after (λ ending. with_frames index frames ending s) × (answer ≡ Continue)
+    TakesPart k (due_at_part rate index s) old new s after
+    (λ ending. with_frames index frames ending s) × (answer ≡ Continue)
 Accepts k rate (Part save index frames) None after old new answer = ⊥
-Accepts k rate (End save) (Some s) after old new answer = TakesEnd k (due_at_end rate s) old new s after answer
+Accepts k rate (End save) (Some s) after old new answer =
+    TakesEnd k (due_at_end rate s) old new s after answer
 Accepts k rate (End save) None after old new answer = ⊥

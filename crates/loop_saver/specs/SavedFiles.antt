@@ -1,6 +1,6 @@
--- A save of a loop writes one file under its name: the WAV of the loop's list. A save of a session writes the WAV of each
--- loop whose list isn't empty, in index order, under the part's name, and then its text under its own name.
--- Each WAV has 2 channels of 24 bits, at the rate of the run.
+-- A save of a loop writes one file under its name: the WAV of the loop's list. A save of a session
+-- writes the WAV of each loop whose list isn't empty, in index order, under the part's name, and
+-- then its text under its own name. Each WAV has 2 channels of 24 bits, at the rate of the run.
 -- "Files of a save" in docs/formats.md.
 use Rattle.std.specs.Prelude.{ℕ, ◌+◌, List, [], ◌∷◌, ◌++◌, Option}
 use Rattle.sl_base.specs.Sounds.{Sound}
@@ -33,7 +33,8 @@ list_file rate name (x ∷ xs) = record { name = name; bytes = wav_text (x ∷ x
 abbrev pub list_files : ℕ → Target → List ℕ → ℕ → List (List Sound) → List SavedFile
 list_files rate target name index [] = []
 list_files rate target name index (list ∷ lists) =
-    list_file rate (list_name target name index) list ++ list_files rate target name (index + 1) lists
+    list_file rate (list_name target name index) list
+    ++ list_files rate target name (index + 1) lists
 
 -- the text of a session's save
 abbrev pub text_file : Target → List ℕ → LooperSettings → List SavedFile

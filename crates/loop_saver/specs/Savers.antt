@@ -1,6 +1,7 @@
--- A saver holds the list of which parts come. A part of another list, and the end, show that a list is whole: then its file
--- is due. At the end of a session's save its text is due behind that.
--- From the first file that isn't written the rest of a save makes no file due, and no frame is held.
+-- A saver holds the list of which parts come. A part of another list, and the end, show that a list
+-- is whole: then its file is due. At the end of a session's save its text is due behind that.
+-- From the first file that isn't written the rest of a save makes no file due, and no frame is
+-- held.
 -- "Files of a save" in docs/formats.md.
 use Rattle.std.specs.Prelude.{◌≡◌, ◌≤◌, ℕ, Bool, true, false, ◌&&◌, ◌==◌, if◌then◌else◌, List, [], ◌∷◌, ◌++◌, length, Option, Some, None, is_some}
 use Rattle.sl_base.specs.Limits.{max_list_frames}
@@ -20,8 +21,8 @@ ending_number Written = 0
 ending_number Failed = 1
 ending_number Memory = 4
 
--- a save underway: its name, its settings, how far its blocks have come, the frames of the latest list, and whether
--- all that was due is written
+-- a save underway: its name, its settings, how far its blocks have come, the frames of the latest
+-- list, and whether all that was due is written
 pub record SavingOf : Type 0 where
   pub name : List ℕ
   pub settings : LooperSettings
@@ -40,7 +41,13 @@ begins name target settings =
     record {
       name = name;
       settings = settings;
-      underway = record { target = target; loops = length settings.strips; index = first_index target; frames = 0 };
+      underway = record {
+        target = target;
+        loops = length settings.strips;
+        index =
+            first_index target;
+        frames = 0;
+      };
       held = [];
       ending = Written;
     }

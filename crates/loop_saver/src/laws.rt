@@ -14,5 +14,6 @@ pub fn the_blocks_of_a_save_may_come()
 
 /// The files that the blocks of a save make due are its files, in their order.
 pub fn the_files_of_a_save_are_due_at_its_blocks()
-    ensures { (rate : ℕ) → (s : Save) → due_for_all rate None (blocks_of_save s) ≡ files_of_save rate s }
+    ensures { (rate : ℕ) → (s : Save) →
+        due_for_all rate None (blocks_of_save s) ≡ files_of_save rate s }
 {}

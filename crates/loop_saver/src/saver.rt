@@ -18,7 +18,8 @@ use std::marker::Model;
 pub enum Saved {
     /// The save goes on.
     Continue,
-    /// The save of this target has ended: 0 written, 1 a write of the keeper failed, 4 out of memory.
+    /// The save of this target has ended: 0 written, 1 a write of the keeper failed, 4 out of
+    /// memory.
     Finished(Target, u8),
 }
 
@@ -42,7 +43,8 @@ impl Model for Saver {
 }
 
 impl Saver {
-    /// A saver before all saves. `rate` is that of the WAV files that it writes, in frames a second.
+    /// A saver before all saves. `rate` is that of the WAV files that it writes, in frames a
+    /// second.
     pub fn new(rate: u32) -> Saver
         requires { IsTrue (is_rate rate) }
         ensures { result ≡ record { rate = rate; saving = None } }
@@ -50,12 +52,14 @@ impl Saver {
         Saver { rate, saving: None }
     }
 
-    /// Takes the next block, and writes the files that it shows to be whole. Want of memory ends the save, not the call.
+    /// Takes the next block, and writes the files that it shows to be whole. Want of memory ends
+    /// the save, not the call.
     pub fn accept<P: Keeper>(&mut self, alloc: Global, keeper: &mut P, block: &Block) -> Saved
         requires next { IsTrue (may_come self.old.saving block.now) }
         ensures rate { self.new.rate ≡ self.old.rate }
         ensures reads { P.read_faults keeper.new ≡ P.read_faults keeper.old }
-        ensures accepted { Accepts P.Keeper self.old.rate block.now self.old.saving self.new.saving keeper.old keeper.new result }
+        ensures accepted { Accepts P.Keeper self.old.rate block.now self.old.saving self.new.saving
+            keeper.old keeper.new result }
     {
         match block {
             Block::Head {

@@ -16,7 +16,8 @@ use sl_ports::Keeper;
 use std::alloc::Global;
 use std::marker::Model;
 
-/// A save whose head came. It holds the frames of the latest list, as long as all that was due is written.
+/// A save whose head came. It holds the frames of the latest list, as long as all that was due is
+/// written.
 #[derive(Drop)]
 pub struct Saving {
     name: Name,
@@ -34,9 +35,37 @@ impl Model for Saving {
 
     ghost Value = { SavingOf };
 
-    ghost view = { λ s. record { name = s.name; settings = s.settings; underway = record { target = s.target; loops = length s.settings.strips; index = s.index; frames = s.frames }; held = s.held.items; ending = s.ending } };
+    ghost view = { λ s.
+        record {
+          name = s.name;
+          settings = s.settings;
+          underway =
+              record {
+                target = s.target;
+                loops = length s.settings.strips;
+                index = s.index;
+                frames =
+                    s.frames;
+              };
+          held = s.held.items;
+          ending = s.ending;
+        } };
 
-    ghost invariant = { λ s. IsSaving (record { name = s.name; settings = s.settings; underway = record { target = s.target; loops = length s.settings.strips; index = s.index; frames = s.frames }; held = s.held.items; ending = s.ending }) };
+    ghost invariant = { λ s.
+        IsSaving (record {
+          name = s.name;
+          settings = s.settings;
+          underway =
+              record {
+                target = s.target;
+                loops = length s.settings.strips;
+                index = s.index;
+                frames =
+                    s.frames;
+              };
+          held = s.held.items;
+          ending = s.ending;
+        }) };
 }
 
 /// The index of the first list of a save.
@@ -49,8 +78,8 @@ fn first_index(target: Target) -> u8
     }
 }
 
-/// Puts frames at the end, or leaves what is held as it was where memory is wanted. The first frames reserve memory for
-/// the `whole` list.
+/// Puts frames at the end, or leaves what is held as it was where memory is wanted. The first
+/// frames reserve memory for the `whole` list.
 fn take_in(held: &mut Vec<Frame>, frames: &[Frame], whole: usize) -> bool
     ensures ok { IsTrue result → held.new.items ≡ held.old.items ++ frames.now }
     ensures unchanged { IsFalse result → held.new.items ≡ held.old.items }
@@ -100,7 +129,9 @@ impl Saving {
     /// Writes the text of a session.
     fn write_text<P: Keeper>(&self, alloc: Global, keeper: &mut P) -> Ending
         ensures reads { P.read_faults keeper.new ≡ P.read_faults keeper.old }
-        ensures value { Writes P.Keeper (text_file self.now.underway.target self.now.name self.now.settings) keeper.old keeper.new result }
+        ensures value { Writes P.Keeper
+            (text_file self.now.underway.target self.now.name self.now.settings) keeper.old
+            keeper.new result }
     {
         match self.target {
             Target::All => write_text(alloc, keeper, &self.name, &self.settings),
@@ -112,8 +143,14 @@ impl Saving {
     fn turn_to<P: Keeper>(&mut self, alloc: Global, keeper: &mut P, rate: u32, index: u8)
         requires rate { rate ≤ max_rate }
         ensures reads { P.read_faults keeper.new ≡ P.read_faults keeper.old }
-        ensures writes { GoesOn P.Keeper (held_file rate self.old) keeper.old keeper.new self.old.ending self.new.ending }
-        ensures after { self.new ≡ record self.old { underway = record self.old.underway { index = index; frames = 0 }; held = []; ending = self.new.ending } }
+        ensures writes { GoesOn P.Keeper (held_file rate self.old) keeper.old keeper.new
+            self.old.ending self.new.ending }
+        ensures after { self.new ≡ record self.old {
+          underway = record self.old.underway { index = index; frames = 0 };
+          held = [];
+          ending =
+              self.new.ending;
+        } }
     {
         if self.ending == Ending::Written {
             self.ending = self.write_held(alloc, keeper, rate);
@@ -139,7 +176,8 @@ impl Saving {
         requires { self.old.underway.frames + length frames.now ≤ max_list_frames }
         ensures ending { MayWant self.old.ending self.new.ending }
         ensures after { self.new ≡ record self.old {
-          underway = record self.old.underway { frames = self.old.underway.frames + length frames.now };
+          underway = record self.old.underway
+              { frames = self.old.underway.frames + length frames.now };
           held = held_by self.new.ending (self.old.held ++ frames.now);
           ending = self.new.ending;
         } }
@@ -193,7 +231,8 @@ impl Saving {
     pub fn end<P: Keeper>(&self, alloc: Global, keeper: &mut P, rate: u32) -> Ending
         requires rate { rate ≤ max_rate }
         ensures reads { P.read_faults keeper.new ≡ P.read_faults keeper.old }
-        ensures writes { GoesOn P.Keeper (due_at_end rate self.now) keeper.old keeper.new self.now.ending result }
+        ensures writes { GoesOn P.Keeper (due_at_end rate self.now) keeper.old keeper.new
+            self.now.ending result }
     {
         match self.ending {
             Ending::Written => self.write_rest(alloc, keeper, rate),

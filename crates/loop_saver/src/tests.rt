@@ -30,8 +30,15 @@ fn settings() -> Result<Settings, Fail> {
 const LIST: &[u8] =
     b"RIFF\x30\0\0\0WAVEfmt \x10\0\0\0\x01\0\x02\0\x80\xbb\0\0\0\x65\x04\0\x06\0\x18\0data\x0c\0\0\0\x01\0\0\xff\xff\xff\x02\0\0\0\x01\0";
 
-/// Gives a saver the head of a save, a part of two frames of the second loop and the end. What came of the end.
-fn saved(alloc: Global, keeper: &mut MemKeeper, name: Name, target: Target, settings: Settings) -> Saved
+/// Gives a saver the head of a save, a part of two frames of the second loop and the end. What came
+/// of the end.
+fn saved(
+    alloc: Global,
+    keeper: &mut MemKeeper,
+    name: Name,
+    target: Target,
+    settings: Settings,
+) -> Saved
     requires list { has_list target (length settings.strips) 1 ≡ true }
     requires named { fits_target target name ≡ true }
 {
@@ -75,7 +82,13 @@ fn keeper(alloc: Global, failing: &[u64]) -> Result<MemKeeper, Fail> {
 #[test]
 fn a_loop_is_saved_under_its_name(rt: HostRuntime) -> Result<(), Fail> {
     let mut keeper = keeper(rt.alloc(), &[])?;
-    let end = saved(rt.alloc(), &mut keeper, name("take.wav")?, Target::One(1), settings()?);
+    let end = saved(
+        rt.alloc(),
+        &mut keeper,
+        name("take.wav")?,
+        Target::One(1),
+        settings()?,
+    );
     assert!(rt; end == Saved::Finished(Target::One(1), 0));
     assert!(rt; keeper.file(&name("take.wav")?) == Some(LIST));
     Ok(())

@@ -17,7 +17,8 @@ use wav_pcm::wav_text;
 /// Writes a file of these bytes.
 fn write<P: Keeper>(alloc: Global, keeper: &mut P, name: &Name, bytes: &[u8]) -> Ending
     ensures reads { P.read_faults keeper.new ≡ P.read_faults keeper.old }
-    ensures value { Writes P.Keeper (record { name = name.now; bytes = bytes.now } ∷ []) keeper.old keeper.new result }
+    ensures value { Writes P.Keeper (record { name = name.now; bytes = bytes.now } ∷ []) keeper.old
+        keeper.new result }
 {
     match keeper.write_file(alloc, name, bytes) {
         KeepAnswer::Done => Ending::Written,
@@ -56,7 +57,8 @@ pub fn write_text<P: Keeper>(
     settings: &Settings,
 ) -> Ending
     ensures reads { P.read_faults keeper.new ≡ P.read_faults keeper.old }
-    ensures value { Writes P.Keeper (text_file All name.now settings.now) keeper.old keeper.new result }
+    ensures value { Writes P.Keeper (text_file All name.now settings.now) keeper.old keeper.new
+        result }
 {
     match session_text(alloc, settings) {
         Ok(bytes) => write(alloc, keeper, name, &bytes),

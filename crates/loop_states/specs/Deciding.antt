@@ -1,6 +1,7 @@
--- Which moves a verb makes goes by where the loop is: in Off, in the verb's own writing mode, in another writing mode, or
--- elsewhere. A Recording of length 0 that is the only layer closes to Off, and then nothing more is done.
--- In WaitStart the moves behind LeaveWait are those of the mode that it leads to.
+-- Which moves a verb makes goes by where the loop is: in Off, in the verb's own writing mode, in
+-- another writing mode, or elsewhere. A Recording of length 0 that is the only layer closes to Off,
+-- and then nothing more is done. In WaitStart the moves behind LeaveWait are those of the mode that
+-- it leads to.
 -- "Verbs" in docs/rules.md.
 use Rattle.std.specs.Prelude.{ℕ, zero, suc, ◌-◌, ◌%◌, Bool, true, false, not, ◌&&◌, ◌||◌, List, [], ◌∷◌, nat_le, ◌==◌, if◌then◌else◌}
 use Rattle.sl_commands.specs.declared.Verb.{Verb}
@@ -38,7 +39,8 @@ is_at_stop _ face = false
 
 -- a multiply or an insert that was asked to end
 abbrev pub end_moves : Mode → Bool → Face → List Move
-end_moves mode round face = if not round || face.rounding || is_at_stop mode face then Close ∷ [] else Round ∷ []
+end_moves mode round face = if not round || face.rounding || is_at_stop mode face then
+    Close ∷ [] else Round ∷ []
 
 abbrev pub record_moves : Column → List Move
 record_moves InItsOwn = Close ∷ []
@@ -54,7 +56,8 @@ layer_moves Elsewhere verb mode face = Begin verb ∷ []
 abbrev pub length_moves : Column → Verb → Mode → Bool → Face → List Move
 length_moves InOff verb mode round face = []
 length_moves InItsOwn verb mode round face = end_moves mode round face
-length_moves InAnother verb mode round face = if face.backward then [] else close_then mode face (Begin verb ∷ [])
+length_moves InAnother verb mode round face = if face.backward then [] else
+    close_then mode face (Begin verb ∷ [])
 length_moves Elsewhere verb mode round face = if face.backward then [] else Begin verb ∷ []
 
 -- to another mode, by the mode that it becomes elsewhere and in a writing mode

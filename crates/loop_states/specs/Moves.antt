@@ -1,6 +1,7 @@
 -- A verb is carried out in moves, one after another, each on the loop that the one before it left.
--- LeaveWait, Close, Round, Turn, Undo, Redo, UndoAll and RedoAll are the rules of these names. Begin starts a writing verb,
--- SetMode changes the mode and nothing else, ToStart goes to the start of the list, and BreakRun ends the run.
+-- LeaveWait, Close, Round, Turn, Undo, Redo, UndoAll and RedoAll are the rules of these names.
+-- Begin starts a writing verb, SetMode changes the mode and nothing else, ToStart goes to the start
+-- of the list, and BreakRun ends the run.
 -- "Verbs" in docs/rules.md.
 use Rattle.std.specs.Prelude.{ℕ, List, [], ◌∷◌}
 use Rattle.sl_commands.specs.declared.Verb.{Verb}

@@ -5,7 +5,8 @@ ghost use Rattle.std.specs.Prelude.{◌≡◌, ◌<◌, [], ◌∷◌, ◌++◌,
 use sl_commands::{Mode, Verb};
 use std::marker::Model;
 
-/// One step of what a verb does. `Begin` starts the writing verb that it names, and `SetMode` changes the mode alone.
+/// One step of what a verb does. `Begin` starts the writing verb that it names, and `SetMode`
+/// changes the mode alone.
 #[derive(Clone, Copy, PartialEq, Eq)]
 pub enum Move {
     LeaveWait,

@@ -1,7 +1,9 @@
 //! What a verb does to a loop, as a short list of moves that its face decides.
 //!
-//! - A face is what a loop shows to its verbs: its mode, place, direction, lengths and numbers of layers, and no frames.
-//! - `decide` gives at most four moves. Carried out in order on any loop with that face, they are the verb.
+//! - A face is what a loop shows to its verbs: its mode, place, direction, lengths and numbers of
+//!   layers, and no frames.
+//! - `decide` gives at most four moves. Carried out in order on any loop with that face, they are
+//!   the verb.
 //! - `state_number` is the number that a get of `state` answers.
 //! - Nothing here takes memory or can fail.
 //!

@@ -9,7 +9,8 @@ ghost use Rattle.loop_states.specs.Deciding.{column_of, close_then, leads_to_off
 use crate::act::{Act, Move};
 use sl_commands::{Face, Mode, Verb};
 
-/// Where a loop is for a verb: in Off, in the verb's own writing mode, in another writing mode, or elsewhere.
+/// Where a loop is for a verb: in Off, in the verb's own writing mode, in another writing mode, or
+/// elsewhere.
 #[derive(Clone, Copy, PartialEq, Eq)]
 pub(crate) enum Standing {
     InOff,
@@ -176,7 +177,8 @@ pub(crate) fn layer_row(standing: Standing, verb: Verb, mode: Mode, face: &Face,
 /// `multiply` and `insert` where they would begin.
 fn length_start(standing: Standing, verb: Verb, mode: Mode, face: &Face, act: &mut Act)
     requires room { length act.old ≤ 1 }
-    ensures { act.new ≡ act.old ++ (if face.now.backward then [] else layer_moves (column_of standing) verb mode face.now) }
+    ensures { act.new ≡ act.old
+        ++ (if face.now.backward then [] else layer_moves (column_of standing) verb mode face.now) }
 {
     if !face.backward {
         layer_row(standing, verb, mode, face, act);

@@ -78,13 +78,15 @@ fn moves_from(verb: Verb, mode: Mode, round: bool, face: &Face, act: &mut Act)
     }
 }
 
-/// What a verb does to a loop with this face, where `round` says whether `multiply` and `insert` end at a stop.
+/// What a verb does to a loop with this face, where `round` says whether `multiply` and `insert`
+/// end at a stop.
 #[tactic(auto, using(crate::proofs::Table::table_of))]
 pub fn decide(face: &Face, round: bool, verb: Verb) -> Act
     requires base { face.now.base ≤ face.now.length }
     ensures moves { result ≡ moves_of verb round face.now }
     ensures few { length result ≤ 4 }
-    ensures table { (reach : ℕ) (l : Loop Sound) → face_of l ≡ face.now → (l.controls.round == 0) ≡ not round → carry_all reach result l ≡ acts verb reach l }
+    ensures table { (reach : ℕ) (l : Loop Sound) → face_of l ≡ face.now →
+        (l.controls.round == 0) ≡ not round → carry_all reach result l ≡ acts verb reach l }
 {
     let mut act = Act::new();
     moves_from(verb, face.mode, round, face, &mut act);

@@ -1,13 +1,14 @@
--- Closing the open layer clears its fresh marks, takes its base away, and sets its end to the tape length.
--- No run goes on and rounding ends. Then
--- - in Recording with length 0 the layer is removed, pos is 0, and the mode is Off, or Playing where a layer is left;
--- - in Recording otherwise the cycle is the length, pos is 0 and the mode Playing (a layer that began empty has
---   cycle 0 until it is closed);
--- - in Multiplying, where pos is greater than the base's length, the list is cut to its first pos frames; pos becomes
---   pos mod the length and the mode is Playing;
+-- Closing the open layer clears its fresh marks, takes its base away, and sets its end to the tape
+-- length. No run goes on and rounding ends. Then
+-- - in Recording with length 0 the layer is removed, pos is 0, and the mode is Off, or Playing
+--   where a layer is left;
+-- - in Recording otherwise the cycle is the length, pos is 0 and the mode Playing (a layer that
+--   began empty has cycle 0 until it is closed);
+-- - in Multiplying, where pos is greater than the base's length, the list is cut to its first pos
+--   frames; pos becomes pos mod the length and the mode is Playing;
 -- - in the other modes the mode is Playing.
--- The stop of Multiplying is reached where pos is a multiple of the cycle, that of Inserting where the length less the
--- base's length is one.
+-- The stop of Multiplying is reached where pos is a multiple of the cycle, that of Inserting where
+-- the length less the base's length is one.
 -- "Closing" in docs/rules.md.
 use Rattle.std.specs.Prelude.{ℕ, ◌-◌, ◌%◌, Bool, true, false, List, [], Option, Some, None, length, take, nat_lt, nat_le, ◌==◌, if◌then◌else◌}
 use Rattle.sl_commands.specs.declared.Mode.{Mode}
@@ -74,7 +75,8 @@ closed_multiplying s l = closes_as Playing (l.deck.pos % current_length s.layers
 -- a loop in this writing mode with its layer closed
 abbrev pub closed_from : {A : Type 0} → Mode → Loop A → Loop A
 closed_from Recording l = closed_recording (length_of l == 0) (nat_le (length l.stack.layers) 1) l
-closed_from Multiplying l = closed_multiplying (finished (multiply_cut l.deck.pos (base_length_of l)) l.stack) l
+closed_from Multiplying l =
+    closed_multiplying (finished (multiply_cut l.deck.pos (base_length_of l)) l.stack) l
 closed_from _ l = closes_as Playing l.deck.pos (finished None l.stack) l
 
 -- a loop in a writing mode with its layer closed

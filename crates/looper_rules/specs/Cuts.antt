@@ -1,6 +1,7 @@
--- A run may be cut into two at any frame, and is then the run of the first frames, followed by that of the rest.
--- The rest begins at the cut's frame, with the looper and the entries that the first frames left; or, where entries up to
--- the cut stand in front of those from the cut on, with the looper that the run of the former left, and the latter.
+-- A run may be cut into two at any frame, and is then the run of the first frames, followed by that
+-- of the rest. The rest begins at the cut's frame, with the looper and the entries that the first
+-- frames left; or, where entries up to the cut stand in front of those from the cut on, with the
+-- looper that the run of the former left, and the latter.
 -- "The run" in docs/rules.md.
 use Rattle.std.specs.Prelude.{ℕ, ◌+◌, List, ◌++◌, length, filter, nat_lt, nat_le}
 use Rattle.sl_base.specs.Sounds.{Sound}
@@ -35,7 +36,12 @@ joined first next =
 
 -- what some frames gave, and the looper that they left, as a run of their own
 abbrev pub ran_so_far : RunSoFar → Ran
-ran_so_far first = record { output = first.output; replies = first.replies; saves = first.saves; looper = first.looper }
+ran_so_far first = record {
+  output = first.output;
+  replies = first.replies;
+  saves = first.saves;
+  looper = first.looper;
+}
 
 -- these frames behind those that gave and left this, the next having this number
 abbrev pub begun_on : ℕ → RunSoFar → List Sound → RunSoFar

@@ -1,9 +1,11 @@
--- An entry that isn't valid for the looper's loops changes nothing and gives no answer. A valid one does what its command
--- says: `down`, `up` and `hit` give a verb to the loops of the target; a set sets a control; a get answers with the value
--- at its place; a save, a session and a release do as the rules of saves say; `quit` changes nothing.
--- All loops are taken in index order, and the selected loop is that of selected_loop_num at that moment.
--- A reply carries the sender and seq of the get or save that it answers, and the index of the loop, or -2 for the looper's
--- own controls and for a session. One entry gives at most one reply, and makes at most one save.
+-- An entry that isn't valid for the looper's loops changes nothing and gives no answer. A valid one
+-- does what its command says: `down`, `up` and `hit` give a verb to the loops of the target; a set
+-- sets a control; a get answers with the value at its place; a save, a session and a release do as
+-- the rules of saves say; `quit` changes nothing.
+-- All loops are taken in index order, and the selected loop is that of selected_loop_num at that
+-- moment. A reply carries the sender and seq of the get or save that it answers, and the index of
+-- the loop, or -2 for the looper's own controls and for a session. One entry gives at most one
+-- reply, and makes at most one save.
 -- "Entries and replies" in docs/rules.md.
 use Rattle.std.specs.Prelude.{ℕ, ◌+◌, ℤ, pos, negsuc, unsigned_abs, Bool, true, false, List, [], ◌∷◌, length, map, Option, Some, None, slice_get, option_map, if◌then◌else◌}
 use Rattle.std.specs.Option.{option_and_then}
@@ -37,7 +39,8 @@ reply_index target l = pos (index_of target l.globals.selected_loop_num)
 
 -- the loop with a control set
 abbrev pub sets : {A : Type 0} → Control → ℤ → ℕ → Loop A → Loop A
-sets control value reach l = record l { controls = with_control control (unsigned_abs value) l.controls }
+sets control value reach l =
+    record l { controls = with_control control (unsigned_abs value) l.controls }
 
 -- the asker of a save
 abbrev pub asker_of : Entry → Bool → Asker
@@ -62,7 +65,8 @@ saves_loop (Some _) k asker l = l
 
 -- the looper after a save of the session, by the answer at once
 abbrev pub saves_session : Option ℕ → Asker → Looper → Looper
-saves_session None asker l = record l { tracks = map (pinned_for asker) l.tracks; saves = l.saves + 1 }
+saves_session None asker l =
+    record l { tracks = map (pinned_for asker) l.tracks; saves = l.saves + 1 }
 saves_session (Some _) asker l = l
 
 -- the looper after a release
@@ -77,12 +81,15 @@ performed (Down target verb) frame e l = on_target target (pressed verb frame) l
 performed (Up target verb) frame e l = on_target target (released verb frame l.globals.long_press) l
 performed (Hit target verb) frame e l = on_target target (given verb) l
 performed (Set target control value) frame e l = on_target target (sets control value) l
-performed (SetGlobal control value) frame e l = record l { globals = with_global control value l.globals }
+performed (SetGlobal control value) frame e l =
+    record l { globals = with_global control value l.globals }
 performed (Get target control) frame e l = l
 performed (GetGlobal control) frame e l = l
 performed (SaveLoop target name) frame e l =
-    saves_loop (refusal_at target l) (index_of target l.globals.selected_loop_num) (asker_of e false) l
-performed (SaveSession name) frame e l = saves_session (session_refusal l.tracks) (asker_of e true) l
+    saves_loop (refusal_at target l) (index_of target l.globals.selected_loop_num)
+    (asker_of e false) l
+performed (SaveSession name) frame e l =
+    saves_session (session_refusal l.tracks) (asker_of e true) l
 performed (Release target outcome) frame e l = releases target l
 performed Quit frame e l = l
 
@@ -92,7 +99,8 @@ applied frame e l = if is_taken e l then performed e.command frame e l else l
 
 -- an answer to this entry
 abbrev pub reply_to : Entry → ℤ → What → ℤ → Reply
-reply_to e index what value = record { sender = e.sender; seq = e.seq; index = index; what = what; value = value }
+reply_to e index what value =
+    record { sender = e.sender; seq = e.seq; index = index; what = what; value = value }
 
 -- an answer to the save of this asker
 abbrev pub outcome_for : ℤ → What → ℕ → Asker → Reply
@@ -116,17 +124,20 @@ ended_asker k l = option_and_then (λ t. loop_asker t.asker) (slice_get l.tracks
 -- the reply to a release
 abbrev pub release_reply : Target → ℕ → Looper → Option Reply
 release_reply (One k) outcome l = option_map (outcome_for (pos k) OfLoop outcome) (ended_asker k l)
-release_reply All outcome l = option_map (outcome_for (negsuc 1) OfSession outcome) (running_session l.tracks)
+release_reply All outcome l =
+    option_map (outcome_for (negsuc 1) OfSession outcome) (running_session l.tracks)
 release_reply Selected outcome l = None
 
 -- the reply to the command of a valid entry
 abbrev pub reply_of : Command → Entry → Looper → Option Reply
 reply_of (Get target control) e l =
-    option_map (λ t. reply_to e (reply_index target l) (Value control) (value_on control (free_of l.chunks l.tracks) t)) (track_of target l)
+    option_map (λ t. reply_to e (reply_index target l) (Value control)
+    (value_on control (free_of l.chunks l.tracks) t)) (track_of target l)
 reply_of (GetGlobal control) e l =
     Some (reply_to e (negsuc 1) (Value control) (reply_value (global_value control l.globals)))
 reply_of (SaveLoop target name) e l =
-    option_map (λ refusal. reply_to e (reply_index target l) OfLoop (pos refusal)) (refusal_at target l)
+    option_map (λ refusal. reply_to e (reply_index target l) OfLoop (pos refusal))
+    (refusal_at target l)
 reply_of (SaveSession name) e l =
     option_map (λ refusal. reply_to e (negsuc 1) OfSession (pos refusal)) (session_refusal l.tracks)
 reply_of (Release target outcome) e l = release_reply target outcome l
@@ -167,7 +178,8 @@ unless_refused (Some _) save = None
 abbrev pub save_of : Command → Looper → Option Save
 save_of (SaveLoop target name) l =
     unless_refused (refusal_at target l) (option_map (loop_save target name l) (track_of target l))
-save_of (SaveSession name) l = unless_refused (session_refusal l.tracks) (Some (session_save name l))
+save_of (SaveSession name) l =
+    unless_refused (session_refusal l.tracks) (Some (session_save name l))
 save_of _ l = None
 
 -- the save that an entry makes

@@ -1,7 +1,8 @@
--- What a face is one frame later, where every write and extension fits and no layer closes: a Recording is one frame
--- longer, and pos is its length; an insert is one frame longer and one place on; a multiply at its length is longer by
--- its base, and one place on; a loop that plays its list or writes over it goes one place on in its direction and round
--- at the list's border, where OneShot becomes Muted. Off, WaitStart and Paused stay as they are.
+-- What a face is one frame later, where every write and extension fits and no layer closes: a
+-- Recording is one frame longer, and pos is its length; an insert is one frame longer and one place
+-- on; a multiply at its length is longer by its base, and one place on; a loop that plays its list
+-- or writes over it goes one place on in its direction and round at the list's border, where
+-- OneShot becomes Muted. Off, WaitStart and Paused stay as they are.
 -- So the next boundary can be told from the faces of one moment.
 -- "Boundaries" in docs/rules.md.
 use Rattle.std.specs.Prelude.{ℕ, zero, suc, ◌+◌, ℤ, Bool, true, false, List, map, ◌==◌, if◌then◌else◌}
@@ -13,7 +14,8 @@ use Rattle.looper_rules.specs.Boundaries.{is_boundary}
 
 -- a face one place on in its list, by whether it wraps around
 abbrev pub face_goes_on : Bool → Face → Face
-face_goes_on true face = record face { mode = wrapped_mode face.mode; pos = wrapped_place face.backward face.length }
+face_goes_on true face =
+    record face { mode = wrapped_mode face.mode; pos = wrapped_place face.backward face.length }
 face_goes_on false face = record face { pos = next_place face.backward face.pos }
 
 -- the length of a multiply once its frame has begun

@@ -1,6 +1,7 @@
--- One frame of the looper: the entries of the frame apply in order; then all faces are taken, and in index order each
--- verb that waits, and has a boundary by these faces, stops waiting and acts; then in index order each loop's gain moves
--- toward wet, and the loop has its frame; then the dry gain moves toward dry, and the output is the clamped sum.
+-- One frame of the looper: the entries of the frame apply in order; then all faces are taken, and
+-- in index order each verb that waits, and has a boundary by these faces, stops waiting and acts;
+-- then in index order each loop's gain moves toward wet, and the loop has its frame; then the dry
+-- gain moves toward dry, and the output is the clamped sum.
 -- "One frame of the looper" in docs/rules.md.
 use Rattle.std.specs.Prelude.{ℕ, List, map, if◌then◌else◌}
 use Rattle.sl_base.specs.Sounds.{Sound, scaled_sound}
@@ -24,7 +25,8 @@ at_boundary g frame faces reach l =
 abbrev pub at_boundaries : ℕ → Looper → Looper
 at_boundaries frame l =
     record l {
-      tracks = swept itself (on_loop (at_boundary l.globals frame (faces_of l))) (free_of l.chunks l.tracks) l.tracks;
+      tracks = swept itself (on_loop (at_boundary l.globals frame (faces_of l)))
+          (free_of l.chunks l.tracks) l.tracks;
     }
 
 -- what a track gives to the sum, and the track after the frame
@@ -48,7 +50,8 @@ played_ready x gain reach l t =
 
 -- one frame of a track with this fade step and input
 abbrev pub played : ℕ → Sound → ℕ → Track → Played
-played step x reach t = played_ready x (gain_after t.gain t.loop.controls.wet step) reach (ready x reach t.loop) t
+played step x reach t =
+    played_ready x (gain_after t.gain t.loop.controls.wet step) reach (ready x reach t.loop) t
 
 -- one frame of all tracks
 abbrev pub all_played : Sound → Looper → List Played
@@ -69,7 +72,8 @@ framed_with x all dry l =
 
 -- one frame whose boundaries were met
 abbrev pub framed_from : Sound → Looper → Framed
-framed_from x l = framed_with x (all_played x l) (gain_after l.dry l.globals.dry l.globals.fade_step) l
+framed_from x l = framed_with x (all_played x l)
+    (gain_after l.dry l.globals.dry l.globals.fade_step) l
 
 -- one frame whose entries were applied
 abbrev pub framed : ℕ → Sound → Looper → Framed

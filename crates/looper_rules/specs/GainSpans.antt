@@ -1,5 +1,6 @@
--- Over a span of frames a gain moves toward one target, frame by frame, and scales each frame by where it then stands.
--- The sums of a span are made frame by frame, and each is clamped once, when all have been added.
+-- Over a span of frames a gain moves toward one target, frame by frame, and scales each frame by
+-- where it then stands. The sums of a span are made frame by frame, and each is clamped once, when
+-- all have been added.
 -- "Gains and the mix" in docs/rules.md.
 use Rattle.std.specs.Prelude.{ℕ, List, [], ◌∷◌}
 use Rattle.sl_base.specs.Sounds.{Sound, summed, scaled_sound}

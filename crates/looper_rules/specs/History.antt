@@ -1,8 +1,9 @@
--- Undo closes an open layer. If a layer is left, the current one moves to the redo layers. If then no layer is left the
--- mode is Off and pos 0, else pos becomes pos mod the length, and the mode stays (closing has made it Playing).
--- Redo moves the next redo layer back, if there is one. From Off the mode becomes Playing with pos 0, else pos becomes
--- pos mod the length and the mode stays.
--- Undo of all repeats undo until no layer is left, redo of all repeats redo until no redo layer is left.
+-- Undo closes an open layer. If a layer is left, the current one moves to the redo layers. If then
+-- no layer is left the mode is Off and pos 0, else pos becomes pos mod the length, and the mode
+-- stays (closing has made it Playing). Redo moves the next redo layer back, if there is one. From
+-- Off the mode becomes Playing with pos 0, else pos becomes pos mod the length and the mode stays.
+-- Undo of all repeats undo until no layer is left, redo of all repeats redo until no redo layer is
+-- left.
 -- "History: undo and redo" in docs/rules.md.
 use Rattle.std.specs.Prelude.{◌%◌, Bool, true, false, List, [], ◌∷◌}
 use Rattle.sl_commands.specs.declared.Mode.{Mode}

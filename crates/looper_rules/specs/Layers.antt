@@ -1,8 +1,10 @@
--- A layer is one whole list of frames. Each of its cells has a frame, and a mark that says whether it is fresh:
--- written since the layer was opened, and at a place of the tape that nothing else holds.
--- A layer also has a base (the list from which it was opened), its seams and those of its base, a cycle, and an end:
--- the tape length at which it was opened while it is open, and the tape length at its closing afterwards.
--- A closed layer has no fresh cell, no base and 0 base seams. The newest layer is the current one.
+-- A layer is one whole list of frames. Each of its cells has a frame, and a mark that says whether
+-- it is fresh: written since the layer was opened, and at a place of the tape that nothing else
+-- holds.
+-- A layer also has a base (the list from which it was opened), its seams and those of its base, a
+-- cycle, and an end: the tape length at which it was opened while it is open, and the tape length
+-- at its closing afterwards. A closed layer has no fresh cell, no base and 0 base seams. The newest
+-- layer is the current one.
 -- What a cell holds is left open: a frame here, and an address where layers share a tape.
 -- "Layers" in docs/rules.md.
 use Rattle.std.specs.Prelude.{ℕ, Bool, true, false, List, [], ◌∷◌, map, length, Option, Some, None, sum_by}

@@ -1,8 +1,9 @@
--- A loop is a deck (mode, rounding, pos, direction, the verb that waits, the verb that is held down), the controls that
--- are set, the number of what was refused, and its stack. pos is the place of the next frame in the current list.
--- The writing modes are Recording, Overdubbing, Multiplying, Inserting, Replacing and Substituting: in them the
--- current layer is open. In Off there is no layer. Rounding says that a multiply or an insert goes on to its stop.
--- The face of a loop is what its verbs, its boundary and its values see of it: no frames.
+-- A loop is a deck (mode, rounding, pos, direction, the verb that waits, the verb that is held
+-- down), the controls that are set, the number of what was refused, and its stack. pos is the place
+-- of the next frame in the current list. The writing modes are Recording, Overdubbing, Multiplying,
+-- Inserting, Replacing and Substituting: in them the current layer is open. In Off there is no
+-- layer. Rounding says that a multiply or an insert goes on to its stop. The face of a loop is what
+-- its verbs, its boundary and its values see of it: no frames.
 -- The count of what was refused stays at 2147483647 once it is there.
 -- "The loop" in docs/rules.md.
 use Rattle.std.specs.Prelude.{ℕ, ◌+◌, min, Bool, true, false, not, length, Option, None, is_some}
@@ -68,7 +69,15 @@ cycle_of l = current_cycle l.stack.layers
 
 -- a deck at rest
 abbrev pub new_deck : Mode → Deck
-new_deck mode = record { mode = mode; rounding = false; pos = 0; backward = false; waiting = None; press = None }
+new_deck mode = record {
+  mode = mode;
+  rounding = false;
+  pos = 0;
+  backward = false;
+  waiting =
+      None;
+  press = None;
+}
 
 -- the loop in another mode
 abbrev pub in_mode : {A : Type 0} → Mode → Loop A → Loop A

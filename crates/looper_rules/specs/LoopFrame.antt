@@ -1,15 +1,19 @@
 -- One frame of a loop with the input x, in this order:
--- - In WaitStart, where the greater of the absolute sides of x is at least rec_thresh, the loop opens for `record`. If
---   that is refused, WaitStart is left. Else the mode is Recording, pos 0, forward.
--- - In Multiplying with pos at the length the list is extended. Where that doesn't fit, one refusal is counted and the
---   layer closes.
--- - The heard frame is the one at pos in Playing, Overdubbing, Multiplying, Substituting and OneShot, and zero elsewhere.
--- - In a writing mode a frame is written at pos: the scaled old one plus x in Overdubbing and Multiplying, x elsewhere;
---   before pos in Inserting, at the end in Recording, over the old one elsewhere. Where it doesn't fit, one refusal is
---   counted and the layer closes; after a closed Recording the loop doesn't advance in this frame.
--- - The loop advances. In Recording pos is the length. In Inserting and Multiplying pos rises by one, and while rounding
---   the layer closes at its stop. In Playing, Overdubbing, Replacing, Substituting, Muted and OneShot pos goes one on in
---   its direction, and round at the list's border: then no run goes on, and OneShot becomes Muted.
+-- - In WaitStart, where the greater of the absolute sides of x is at least rec_thresh, the loop
+--   opens for `record`. If that is refused, WaitStart is left. Else the mode is Recording, pos 0,
+--   forward.
+-- - In Multiplying with pos at the length the list is extended. Where that doesn't fit, one refusal
+--   is counted and the layer closes.
+-- - The heard frame is the one at pos in Playing, Overdubbing, Multiplying, Substituting and
+--   OneShot, and zero elsewhere.
+-- - In a writing mode a frame is written at pos: the scaled old one plus x in Overdubbing and
+--   Multiplying, x elsewhere; before pos in Inserting, at the end in Recording, over the old one
+--   elsewhere. Where it doesn't fit, one refusal is counted and the layer closes; after a closed
+--   Recording the loop doesn't advance in this frame.
+-- - The loop advances. In Recording pos is the length. In Inserting and Multiplying pos rises by
+--   one, and while rounding the layer closes at its stop. In Playing, Overdubbing, Replacing,
+--   Substituting, Muted and OneShot pos goes one on in its direction, and round at the list's
+--   border: then no run goes on, and OneShot becomes Muted.
 --   Off, WaitStart and Paused don't advance.
 -- "One frame of a loop" in docs/rules.md.
 use Rattle.std.specs.Prelude.{ℕ, ◌+◌, ◌-◌, Bool, true, false, List, slice_index_or, nat_le, ◌==◌, if◌then◌else◌}
@@ -58,7 +62,8 @@ ready_in _ _ l = l
 
 -- the loop as it is when its frame is heard and written
 abbrev pub ready : {A : Type 0} → Sound → ℕ → Loop A → Loop A
-ready x reach l = let now = awake x reach l in ready_in now.deck.mode (now.deck.pos == length_of now) now
+ready x reach l = let now = awake x reach l in
+    ready_in now.deck.mode (now.deck.pos == length_of now) now
 
 -- the frame at a place, silence past the end
 abbrev pub sound_at : List Sound → ℕ → Sound
@@ -96,7 +101,9 @@ fits reach l = write_fits reach (how_in l.deck.mode l.deck.backward) l.deck.pos 
 -- the stack with the input written
 abbrev pub with_input : Sound → Loop Sound → Stack Sound
 with_input x l =
-    written (how_in l.deck.mode l.deck.backward) l.deck.pos (new_frame l.deck.mode l.controls.feedback (sound_at (current_list l.stack.layers) l.deck.pos) x) l.stack
+    written (how_in l.deck.mode l.deck.backward) l.deck.pos
+    (new_frame l.deck.mode l.controls.feedback (sound_at (current_list l.stack.layers) l.deck.pos)
+    x) l.stack
 
 -- whether going on in this direction from a place wraps around in a list of this length
 abbrev pub wraps : Bool → ℕ → ℕ → Bool
@@ -121,7 +128,8 @@ wrapped_mode mode = mode
 -- the loop one place on, by whether it wraps around
 abbrev pub goes_on : {A : Type 0} → Bool → Loop A → Loop A
 goes_on true l =
-    with_stack (run_broken l.stack) (in_mode_at (wrapped_mode l.deck.mode) (wrapped_place l.deck.backward (length_of l)) l)
+    with_stack (run_broken l.stack)
+    (in_mode_at (wrapped_mode l.deck.mode) (wrapped_place l.deck.backward (length_of l)) l)
 goes_on false l = at_place (next_place l.deck.backward l.deck.pos) l
 
 -- the loop closed, where it rounds and is at its stop

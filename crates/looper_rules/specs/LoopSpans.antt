@@ -1,7 +1,8 @@
 -- Frames of one loop in a row, which reaches the same number of chunks at each.
 -- A frame leaves alone what is set of the loop, the verb that waits, the press and the pin.
--- A frame is quiet where neither the loop behind it nor its own sound depends on what the loop reaches, it takes no chunk,
--- and the mode stays and the face goes on: so no layer is opened or closed, nothing is refused, and OneShot doesn't end.
+-- A frame is quiet where neither the loop behind it nor its own sound depends on what the loop
+-- reaches, it takes no chunk, and the mode stays and the face goes on: so no layer is opened or
+-- closed, nothing is refused, and OneShot doesn't end.
 -- "Frames in a row" in docs/rules.md.
 use Rattle.std.specs.Prelude.{◌≡◌, ℕ, ⊤, List, [], ◌∷◌}
 use Rattle.sl_base.specs.Sounds.{Sound}
@@ -18,7 +19,8 @@ loop_over (x ∷ xs) reach l = loop_over xs reach (frame_later x reach l)
 -- what is heard of the loop over these frames
 abbrev pub loop_heard_over : List Sound → ℕ → Loop Sound → List Sound
 loop_heard_over [] reach l = []
-loop_heard_over (x ∷ xs) reach l = heard (ready x reach l) ∷ loop_heard_over xs reach (frame_later x reach l)
+loop_heard_over (x ∷ xs) reach l =
+    heard (ready x reach l) ∷ loop_heard_over xs reach (frame_later x reach l)
 
 -- what a frame leaves alone
 pub record IsLeftAlone {A : Type 0} (old new : Loop A) : Type 0 where

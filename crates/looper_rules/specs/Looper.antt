@@ -1,6 +1,8 @@
--- A looper has its rate, its number of chunks, its own controls, the dry gain, its tracks, and how many saves there were.
--- A track is a loop with its gain and, while a save pins it, who asked for that save.
--- What is done to all loops is done in index order, and the chunks that a loop leaves free pass on to the next.
+-- A looper has its rate, its number of chunks, its own controls, the dry gain, its tracks, and how
+-- many saves there were. A track is a loop with its gain and, while a save pins it, who asked for
+-- that save.
+-- What is done to all loops is done in index order, and the chunks that a loop leaves free pass on
+-- to the next.
 -- "The looper" in docs/rules.md.
 use Rattle.std.specs.Prelude.{ℕ, zero, suc, ◌+◌, ◌-◌, Bool, List, [], ◌∷◌, map, Option}
 use Rattle.sl_base.specs.Sounds.{Sound}
@@ -84,7 +86,8 @@ on_loop act reach t = record t { loop = act reach t.loop }
 abbrev pub on_target : Target → (ℕ → Loop Sound → Loop Sound) → Looper → Looper
 on_target target act l =
     record l {
-      tracks = at_target target l.globals.selected_loop_num (on_loop act) (free_of l.chunks l.tracks) l.tracks;
+      tracks = at_target target l.globals.selected_loop_num (on_loop act)
+          (free_of l.chunks l.tracks) l.tracks;
     }
 
 -- the index that a target of one loop names

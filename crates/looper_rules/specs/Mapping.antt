@@ -1,5 +1,6 @@
--- What a cell holds is left open, so a stack of one kind becomes one of another where each content is given another:
--- where layers share a tape, a stack of addresses becomes one of the frames at these addresses.
+-- What a cell holds is left open, so a stack of one kind becomes one of another where each content
+-- is given another: where layers share a tape, a stack of addresses becomes one of the frames at
+-- these addresses.
 -- Numbers, fresh marks, the pin's tape length and the run stay.
 -- "Layers" in docs/rules.md.
 use Rattle.std.specs.Prelude.{List, map, Option, Some, None}

@@ -1,9 +1,10 @@
 -- The single loop is Off, Recording or Playing.
--- A hit of record starts a recording with no frames in Off and in Playing, and ends it in Recording:
+-- A hit of record starts a recording with no frames in Off and in Playing, and ends it in
+-- Recording:
 -- a recording with no frame leaves the loop Off, any other plays from its first frame on.
 -- In Recording each frame that comes in is put at the end, and the position is the length.
--- In Playing the frame at the position is heard. The position goes on by one, and behind the last frame to 0.
--- In the other modes silence is heard.
+-- In Playing the frame at the position is heard. The position goes on by one, and behind the last
+-- frame to 0. In the other modes silence is heard.
 -- A hit acts before the frame with its number. A hit whose frame never comes changes no output.
 -- "The single loop" in docs/rules.md.
 use Rattle.std.specs.Prelude.{ℕ, ◌+◌, List, [], ◌∷◌, ◌++◌, length, if◌then◌else◌, ◌==◌, slice_index_or}

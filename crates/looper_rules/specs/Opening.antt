@@ -1,11 +1,12 @@
--- Opening adds a layer. It continues the tape at t, the greater of the current layer's end (0 without a layer)
--- and the pin (0 without one). It is refused, in this order, where
+-- Opening adds a layer. It continues the tape at t, the greater of the current layer's end (0
+-- without a layer) and the pin (0 without one). It is refused, in this order, where
 -- - there are 256 layers,
 -- - the total seams together with the new layer's are more than 65534,
 -- - a tape of length t has no room.
--- A refusal changes nothing. Otherwise the redo layers are dropped, the tape length becomes t, and no run goes on.
--- A layer that begins empty has no cells, no base, 0 seams and cycle 0. Any other has the current list, not fresh,
--- that list as its base, and the seams and the cycle of the layer below.
+-- A refusal changes nothing. Otherwise the redo layers are dropped, the tape length becomes t, and
+-- no run goes on. A layer that begins empty has no cells, no base, 0 seams and cycle 0. Any other
+-- has the current list, not fresh, that list as its base, and the seams and the cycle of the layer
+-- below.
 -- "Opening" in docs/rules.md.
 use Rattle.std.specs.Prelude.{ℕ, ◌+◌, ◌-◌, max, Bool, true, false, List, [], ◌∷◌, None, length, nat_lt, nat_le, if◌then◌else◌}
 use Rattle.sl_commands.specs.declared.Started.{Started}
@@ -40,7 +41,8 @@ opening reach empty s =
 
 -- an open layer with no cells
 abbrev pub empty_layer : {A : Type 0} → ℕ → Layer A
-empty_layer tape = record { cells = []; base = []; base_seams = 0; cycle = 0; end = tape; seams = 0 }
+empty_layer tape =
+    record { cells = []; base = []; base_seams = 0; cycle = 0; end = tape; seams = 0 }
 
 -- an open layer that begins as another is
 abbrev pub copied_layer : {A : Type 0} → ℕ → Layer A → Layer A

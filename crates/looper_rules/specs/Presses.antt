@@ -1,8 +1,9 @@
--- `hit v` gives v. `down v` gives v and remembers v and the frame. `up v` does nothing where the remembered verb isn't v.
--- Otherwise it forgets the press, and where at least long_press frames passed and the mode is v's, it gives v again.
--- The verbs with a mode are the six writing verbs, `mute` (Muted), `pause` (Paused) and `oneshot` (OneShot).
--- Giving v: where quantize is 0, or v is one of undo, redo, undo_all, redo_all, mute_on, mute_off and pause, v acts at
--- once and a verb that waits stays. Otherwise v becomes the verb that waits, in place of another.
+-- `hit v` gives v. `down v` gives v and remembers v and the frame. `up v` does nothing where the
+-- remembered verb isn't v. Otherwise it forgets the press, and where at least long_press frames
+-- passed and the mode is v's, it gives v again. The verbs with a mode are the six writing verbs,
+-- `mute` (Muted), `pause` (Paused) and `oneshot` (OneShot). Giving v: where quantize is 0, or v is
+-- one of undo, redo, undo_all, redo_all, mute_on, mute_off and pause, v acts at once and a verb
+-- that waits stays. Otherwise v becomes the verb that waits, in place of another.
 -- "Presses" in docs/rules.md.
 use Rattle.std.specs.Prelude.{ℕ, ◌-◌, Bool, true, false, ◌&&◌, ◌||◌, Option, Some, None, nat_le, ◌==◌, if◌then◌else◌}
 use Rattle.sl_commands.specs.declared.Verb.{Verb}
@@ -42,7 +43,8 @@ given verb reach l = given_at_once (l.controls.quantize == 0 || never_waits verb
 
 -- what `down` does at a frame
 abbrev pub pressed : {A : Type 0} → Verb → ℕ → ℕ → Loop A → Loop A
-pressed verb frame reach l = with_press (Some (record { verb = verb; frame = frame })) (given verb reach l)
+pressed verb frame reach l =
+    with_press (Some (record { verb = verb; frame = frame })) (given verb reach l)
 
 -- whether the press is of this verb
 abbrev pub is_press_of : Verb → Option Held → Bool
@@ -63,7 +65,8 @@ released_long false verb reach l = with_press None l
 abbrev pub released : {A : Type 0} → Verb → ℕ → ℕ → ℕ → Loop A → Loop A
 released verb frame long_press reach l =
     if is_press_of verb l.deck.press
-    then released_long (is_long frame long_press l.deck.press && is_mode_of verb l.deck.mode) verb reach l
+    then released_long (is_long frame long_press l.deck.press && is_mode_of verb l.deck.mode) verb
+    reach l
     else l
 
 -- the waiting verb acts, where there is one

@@ -2,7 +2,8 @@
 -- - the tape of a loop takes at most the chunks that the loop reaches;
 -- - verbs and frames leave the controls, the press and whether a pin stands as they were;
 -- - while a session's save runs, its pins stand on all loops.
--- A run begins from settings in their ranges, with lists as long as their strips say, for which there are chunks.
+-- A run begins from settings in their ranges, with lists as long as their strips say, for which
+-- there are chunks.
 -- "States: what always holds" in docs/rules.md.
 use Rattle.std.specs.Prelude.{◌≡◌, ℕ, ◌≤◌, ⊤, Bool, false, IsTrue, List, [], ◌∷◌, length, map, Option, is_some}
 use Rattle.sl_base.specs.Sounds.{Sound}
@@ -17,7 +18,8 @@ use Rattle.looper_rules.specs.Looper.{Track, Looper, tape_of}
 use Rattle.looper_rules.specs.Pins.{SessionIsWhole}
 use Rattle.looper_rules.specs.States.{IsLoop, IsTrack, IsLooper}
 
--- what verbs and frames leave as it is: the chunks in reach, whether a pin stands, the controls and the press
+-- what verbs and frames leave as it is: the chunks in reach, whether a pin stands, the controls and
+-- the press
 pub record Unchanged : Type 0 where
   pub reach : ℕ
   pub pinned : Bool
@@ -45,9 +47,15 @@ IsLayering _ backward = ⊥
 abbrev pub KeepsLoops : (ℕ → Loop Sound → Loop Sound) → Type 0
 KeepsLoops act = (a : Unchanged) (l : Loop Sound) → Keeps a l → Keeps a (act a.reach l)
 
--- what verbs and frames leave unchanged of a track that reaches so many chunks: a pin stands where someone asked for a save
+-- what verbs and frames leave unchanged of a track that reaches so many chunks: a pin stands where
+-- someone asked for a save
 abbrev pub unchanged_of : ℕ → Track → Unchanged
-unchanged_of reach t = record { reach = reach; pinned = is_some t.asker; controls = t.loop.controls; press = t.loop.deck.press }
+unchanged_of reach t = record {
+  reach = reach;
+  pinned = is_some t.asker;
+  controls = t.loop.controls;
+  press = t.loop.deck.press;
+}
 
 -- what a track keeps that reaches so many chunks, when so many frames are done
 pub record KeepsTrack (reach frame : ℕ) (t : Track) : Type 0 where
@@ -72,7 +80,8 @@ AreLists (s ∷ ss) [] = (s.length ≡ 0) × AreLists ss []
 AreLists (s ∷ ss) (list ∷ lists) = (s.length ≡ length list) × AreLists ss lists
 
 -- settings, chunks and lists with which a run may begin
-pub record IsBeginning (settings : LooperSettings) (chunks : ℕ) (lists : List (List Sound)) : Type 0 where
+pub record IsBeginning (settings : LooperSettings) (chunks : ℕ)
+    (lists : List (List Sound)) : Type 0 where
   pub in_range : IsTrue (are_settings settings)
   pub lengths : AreLists settings.strips lists
   pub fits : used (map length lists) ≤ chunks

@@ -1,6 +1,7 @@
 -- A tape of so many frames takes that number divided by 4096, rounded up, of chunks.
--- What all loops use is the sum over their tapes, and the chunks that are left are free. A loop reaches the chunks
--- of its own tape and the free ones. It has room where its tape isn't full to the end of a chunk, or a chunk is free.
+-- What all loops use is the sum over their tapes, and the chunks that are left are free. A loop
+-- reaches the chunks of its own tape and the free ones. It has room where its tape isn't full to
+-- the end of a chunk, or a chunk is free.
 -- "Room" in docs/rules.md.
 use Rattle.std.specs.Prelude.{ℕ, ◌+◌, ◌*◌, ◌/◌, ◌%◌, Bool, ◌||◌, not, List, nat_lt, ◌==◌, sum_by}
 use Rattle.sl_base.specs.Limits.{chunk_frames}

@@ -1,9 +1,11 @@
--- A run begins with settings, a number of chunks, and the list of each loop. A loop with a list has one layer of it, with
--- 2 seams; its tape length and the layer's end are the length, its mode is Paused and pos 0. A loop without is Off.
--- Gains begin at wet and dry. All else is as in a new loop.
--- Before each frame the entries that are due apply: those at the head of the list whose frame isn't later. Entries behind
--- the last frame apply after it, in order, as at the frame behind the last.
--- A run gives the output, the replies in the order in which they come, the saves, and the last looper.
+-- A run begins with settings, a number of chunks, and the list of each loop. A loop with a list has
+-- one layer of it, with 2 seams; its tape length and the layer's end are the length, its mode is
+-- Paused and pos 0. A loop without is Off. Gains begin at wet and dry. All else is as in a new
+-- loop.
+-- Before each frame the entries that are due apply: those at the head of the list whose frame isn't
+-- later. Entries behind the last frame apply after it, in order, as at the frame behind the last.
+-- A run gives the output, the replies in the order in which they come, the saves, and the last
+-- looper.
 -- "The run" in docs/rules.md.
 use Rattle.std.specs.Prelude.{ℕ, ◌+◌, List, [], ◌∷◌, ◌++◌, length, Option, None, nat_le, option_to_list, if◌then◌else◌}
 use Rattle.sl_base.specs.Sounds.{Sound}
@@ -66,7 +68,13 @@ loaded list cycle s =
 
 -- a loop that begins with this list
 abbrev pub first_loop : {A : Type 0} → List A → StripSettings → Loop A
-first_loop [] s = record { deck = new_deck Off; controls = controls_of s; refused = 0; stack = empty_stack }
+first_loop [] s = record {
+  deck = new_deck Off;
+  controls = controls_of s;
+  refused = 0;
+  stack =
+      empty_stack;
+}
 first_loop (x ∷ xs) s =
     record {
       deck = new_deck Paused;
@@ -115,7 +123,8 @@ entered_before answer made rest =
 -- these entries applied at a frame
 abbrev pub entered : ℕ → List Entry → Looper → Entered
 entered frame [] l = record { replies = []; saves = []; looper = l }
-entered frame (e ∷ es) l = entered_before (reply e l) (save e l) (entered frame es (applied frame e l))
+entered frame (e ∷ es) l =
+    entered_before (reply e l) (save e l) (entered frame es (applied frame e l))
 
 -- the entries that are due at a frame
 abbrev pub due : ℕ → List Entry → List Entry

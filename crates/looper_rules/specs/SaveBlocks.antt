@@ -1,6 +1,7 @@
--- The blocks of saves, one save after another. Each save of a run is one whose blocks may follow: it has as many lists as
--- its target says, none is too long, and a session's name leaves room for its files' names. Its name is one, its settings
--- lie in their ranges, and its target is that of a release.
+-- The blocks of saves, one save after another. Each save of a run is one whose blocks may follow:
+-- it has as many lists as its target says, none is too long, and a session's name leaves room for
+-- its files' names. Its name is one, its settings lie in their ranges, and its target is that of a
+-- release.
 -- "Blocks of a save" in docs/rules.md.
 use Rattle.std.specs.Prelude.{◌≡◌, ℕ, ◌+◌, ◌≤◌, ⊤, List, [], ◌∷◌, ◌++◌, length, IsTrue}
 use Rattle.sl_base.specs.Names.{is_name}

@@ -1,11 +1,12 @@
--- A save of a loop is answered 2 where a pin stands on it, and else 3 where its list is empty. Otherwise the list is
--- saved, and the loop is pinned: the pin holds the list and the tape length, all fresh marks are cleared, and no run
--- goes on. The answer comes with the release.
--- A save of a session is answered 2 where a pin stands on any loop. Otherwise all loops are pinned, empty ones too, and
--- all lists are saved. Each save has a number, counted from 0, its target, its name, the settings and the lists at that
--- moment. In the settings a loop in Recording has its length as its cycle.
--- A release of loop i takes the pin of a loop's save away and answers that save with its outcome. A release of all loops
--- does so with the pins of a session's save. In other cases nothing happens.
+-- A save of a loop is answered 2 where a pin stands on it, and else 3 where its list is empty.
+-- Otherwise the list is saved, and the loop is pinned: the pin holds the list and the tape length,
+-- all fresh marks are cleared, and no run goes on. The answer comes with the release.
+-- A save of a session is answered 2 where a pin stands on any loop. Otherwise all loops are pinned,
+-- empty ones too, and all lists are saved. Each save has a number, counted from 0, its target, its
+-- name, the settings and the lists at that moment. In the settings a loop in Recording has its
+-- length as its cycle.
+-- A release of loop i takes the pin of a loop's save away and answers that save with its outcome. A
+-- release of all loops does so with the pins of a session's save. In other cases nothing happens.
 -- "Saves" in docs/rules.md.
 use Rattle.std.specs.Prelude.{ℕ, Bool, false, ◌||◌, List, [], ◌∷◌, map, Option, Some, None, is_some, ◌==◌, if◌then◌else◌}
 use Rattle.sl_base.specs.Sounds.{Sound}

@@ -1,7 +1,7 @@
--- Starting `record`: with rec_thresh above 0 the mode becomes WaitStart. Otherwise the loop opens an empty layer; if
--- that isn't refused, the mode is Recording, pos 0 and the direction forward.
--- Starting another writing verb: the loop opens a copy of its list; if that isn't refused, the mode is the verb's, and
--- pos and direction stay. A refusal leaves the mode, and is counted.
+-- Starting `record`: with rec_thresh above 0 the mode becomes WaitStart. Otherwise the loop opens
+-- an empty layer; if that isn't refused, the mode is Recording, pos 0 and the direction forward.
+-- Starting another writing verb: the loop opens a copy of its list; if that isn't refused, the mode
+-- is the verb's, and pos and direction stay. A refusal leaves the mode, and is counted.
 -- Leaving WaitStart makes the mode Off where there is no layer, else Playing.
 -- "Starting" in docs/rules.md.
 use Rattle.std.specs.Prelude.{ℕ, true, false, List, [], ◌∷◌, nat_lt, if◌then◌else◌}
@@ -31,7 +31,8 @@ starts_record reach l =
 
 -- the loop opened for the writing verb of this mode, or the refusal counted
 abbrev pub layers_on : {A : Type 0} → Started → Mode → Loop A → Loop A
-layers_on Ok mode l = record l { deck = record l.deck { mode = mode }; stack = opened false l.stack }
+layers_on Ok mode l =
+    record l { deck = record l.deck { mode = mode }; stack = opened false l.stack }
 layers_on _ mode l = refused_once l
 
 -- starting the writing verb of this mode

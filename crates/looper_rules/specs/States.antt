@@ -1,17 +1,20 @@
 -- What holds of every loop and every looper that a run reaches.
--- A closed layer has a list of 1 to 16777216 frames, none fresh, no base, and a cycle of 1 to its length.
--- In a writing mode the current layer is open, the others are closed, and there are no redo layers. In every mode but
--- Off, WaitStart and Recording the list isn't empty, its cycle is at least 1, and pos lies below its length; in
--- Multiplying pos may also be the length. The same holds in WaitStart where there is a layer. In Off there is no layer,
--- and pos is 0 there and in WaitStart without a layer.
--- In Recording pos is the length and the cycle is 0. The base of an open layer isn't longer than its list, and in another
--- writing mode than Recording it isn't empty. In Recording, Multiplying and Inserting the direction is forward.
--- A run goes on in a writing mode alone, and then the next write is the one that continues it.
--- Layers and redo layers together are at most 256, with at most 65536 seams; each end and the pin are at most the tape
--- length. No layer ends before the one below it, and the redo layers, in the order in which they come back, go on so
--- from the current one: so an opening can take the tape back to the current layer's end. What all tapes use is at most
--- the chunks. A pin stands exactly where someone asked for a save. Rate, controls and gains lie in their ranges, and no
--- press is later than the frame.
+-- A closed layer has a list of 1 to 16777216 frames, none fresh, no base, and a cycle of 1 to its
+-- length. In a writing mode the current layer is open, the others are closed, and there are no redo
+-- layers. In every mode but Off, WaitStart and Recording the list isn't empty, its cycle is at
+-- least 1, and pos lies below its length; in Multiplying pos may also be the length. The same holds
+-- in WaitStart where there is a layer. In Off there is no layer, and pos is 0 there and in
+-- WaitStart without a layer.
+-- In Recording pos is the length and the cycle is 0. The base of an open layer isn't longer than
+-- its list, and in another writing mode than Recording it isn't empty. In Recording, Multiplying
+-- and Inserting the direction is forward. A run goes on in a writing mode alone, and then the next
+-- write is the one that continues it.
+-- Layers and redo layers together are at most 256, with at most 65536 seams; each end and the pin
+-- are at most the tape length. No layer ends before the one below it, and the redo layers, in the
+-- order in which they come back, go on so from the current one: so an opening can take the tape
+-- back to the current layer's end. What all tapes use is at most the chunks. A pin stands exactly
+-- where someone asked for a save. Rate, controls and gains lie in their ranges, and no press is
+-- later than the frame.
 -- "States: what always holds" in docs/rules.md.
 use Rattle.std.specs.Prelude.{◌≡◌, ℕ, ◌+◌, ◌≤◌, ◌<◌, ⊤, Bool, false, IsTrue, List, [], ◌∷◌, length, map, Option, Some, None, is_some}
 use Rattle.std.specs.List.{AllByRecursion}
@@ -77,18 +80,21 @@ AreWaiting (l ∷ ls) pos = ArePlayable (l ∷ ls) pos
 
 -- the layers, redo layers, pos and direction of a writing mode over a list
 abbrev pub AreWritten : {A : Type 0} → List (Layer A) → List (Layer A) → ℕ → Type 0
-AreWritten layers redo pos = HasCurrent IsOpenOver layers × (redo ≡ []) × (pos < current_length layers)
+AreWritten layers redo pos = HasCurrent IsOpenOver layers × (redo ≡ [])
+    × (pos < current_length layers)
 
 -- what a mode says of layers, redo layers, pos and direction
 abbrev pub InMode : {A : Type 0} → Mode → List (Layer A) → List (Layer A) → ℕ → Bool → Type 0
 InMode Off layers redo pos backward = AreNone layers pos × AreClosed redo
 InMode WaitStart layers redo pos backward = AreWaiting layers pos × AreClosed redo
-InMode Recording layers redo pos backward = HasCurrent IsRecorded layers × (redo ≡ []) × (pos ≡ current_length layers) × (backward ≡ false)
+InMode Recording layers redo pos backward = HasCurrent IsRecorded layers × (redo ≡ [])
+    × (pos ≡ current_length layers) × (backward ≡ false)
 InMode Overdubbing layers redo pos backward = AreWritten layers redo pos
 InMode Replacing layers redo pos backward = AreWritten layers redo pos
 InMode Substituting layers redo pos backward = AreWritten layers redo pos
 InMode Inserting layers redo pos backward = AreWritten layers redo pos × (backward ≡ false)
-InMode Multiplying layers redo pos backward = HasCurrent IsOpenOver layers × (redo ≡ []) × (pos ≤ current_length layers) × (backward ≡ false)
+InMode Multiplying layers redo pos backward = HasCurrent IsOpenOver layers × (redo ≡ [])
+    × (pos ≤ current_length layers) × (backward ≡ false)
 InMode Playing layers redo pos backward = ArePlayable layers pos × AreClosed redo
 InMode Muted layers redo pos backward = ArePlayable layers pos × AreClosed redo
 InMode OneShot layers redo pos backward = ArePlayable layers pos × AreClosed redo
@@ -101,10 +107,12 @@ IsBehind Backward place pos = place ≡ pos + 1
 IsBehind Insert place pos = pos ≡ place + 1
 IsBehind Append place pos = pos ≡ place + 1
 
--- the last write of a run is the one before the next in this mode, at this pos and in this direction
+-- the last write of a run is the one before the next in this mode, at this pos and in this
+-- direction
 abbrev pub GoesOn : Option LastWrite → Mode → ℕ → Bool → Type 0
 GoesOn None mode pos backward = ⊤
-GoesOn (Some last) mode pos backward = (last.how ≡ how_in mode backward) × IsBehind last.how last.place pos
+GoesOn (Some last) mode pos backward = (last.how ≡ how_in mode backward)
+    × IsBehind last.how last.place pos
 
 -- a run goes on in a writing mode alone, as its last write says
 abbrev pub IsRun : Mode → Option LastWrite → ℕ → Bool → Type 0
@@ -118,7 +126,8 @@ IsRun _ run pos backward = run ≡ None
 
 -- each of these layers has at most 16777216 frames, and its end is at most the tape length
 abbrev pub AreWithin : {A : Type 0} → ℕ → List (Layer A) → Type 0
-AreWithin tape layers = AllByRecursion (λ l. (length l.cells ≤ max_list_frames) × (l.end ≤ tape)) layers
+AreWithin tape layers =
+    AllByRecursion (λ l. (length l.cells ≤ max_list_frames) × (l.end ≤ tape)) layers
 
 -- no layer ends before the one below it
 abbrev pub AreOrdered : {A : Type 0} → List (Layer A) → Type 0

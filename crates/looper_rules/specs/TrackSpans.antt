@@ -1,6 +1,7 @@
--- A span of frames may be played one loop after another: boundaries at its first frame alone, then each track over the
--- whole span with the chunks that it reaches, and the sums frame by frame. It is what the frames give one by one where no
--- boundary acts behind the first, and no loop takes a chunk there or depends on what it reaches.
+-- A span of frames may be played one loop after another: boundaries at its first frame alone, then
+-- each track over the whole span with the chunks that it reaches, and the sums frame by frame. It
+-- is what the frames give one by one where no boundary acts behind the first, and no loop takes a
+-- chunk there or depends on what it reaches.
 -- "One frame of the looper" in docs/rules.md.
 use Rattle.std.specs.Prelude.{◌≡◌, ℕ, ◌+◌, ⊤, List, [], ◌∷◌, map, length, replicate}
 use Rattle.sl_base.specs.Sounds.{Sound, silence, clamped_sound}
@@ -33,7 +34,8 @@ track_of p = p.track
 
 -- some frames of a track
 abbrev pub played_over : ℕ → List Sound → ℕ → Track → PlayedOver
-played_over step xs reach t = record { given = given_over step xs reach t; track = track_over step xs reach t }
+played_over step xs reach t =
+    record { given = given_over step xs reach t; track = track_over step xs reach t }
 
 -- some frames of all tracks, one track after another
 abbrev pub all_over : ℕ → List Sound → ℕ → List Track → List PlayedOver
@@ -52,7 +54,8 @@ sums_of xs all = added_all (replicate (length xs) silence) (map given_of all)
 abbrev pub spanned_with : List Sound → List PlayedOver → Looper → Spanned
 spanned_with xs all l =
     record {
-      output = map clamped_sound (added (sums_of xs all) (scaled_over l.globals.dry l.globals.fade_step xs l.dry));
+      output = map clamped_sound
+          (added (sums_of xs all) (scaled_over l.globals.dry l.globals.fade_step xs l.dry));
       looper = record l {
         dry = gain_over l.globals.dry l.globals.fade_step xs l.dry;
         tracks = map track_of all;
@@ -61,7 +64,8 @@ spanned_with xs all l =
 
 -- a span whose boundaries were met
 abbrev pub spanned_from : List Sound → Looper → Spanned
-spanned_from xs l = spanned_with xs (all_over l.globals.fade_step xs (free_of l.chunks l.tracks) l.tracks) l
+spanned_from xs l =
+    spanned_with xs (all_over l.globals.fade_step xs (free_of l.chunks l.tracks) l.tracks) l
 
 -- a span of which the first frame has this number
 abbrev pub spanned : ℕ → List Sound → Looper → Spanned
@@ -70,4 +74,5 @@ spanned frame xs l = spanned_from xs (at_boundaries frame l)
 -- no boundary acts at these frames
 abbrev pub IsCalm : ℕ → List Sound → Looper → Type 0
 IsCalm frame [] l = ⊤
-IsCalm frame (x ∷ xs) l = (at_boundaries frame l ≡ l) × IsCalm (frame + 1) xs (framed_from x l).looper
+IsCalm frame (x ∷ xs) l = (at_boundaries frame l ≡ l)
+    × IsCalm (frame + 1) xs (framed_from x l).looper

@@ -1,7 +1,8 @@
--- The saves of a run that no release has answered yet, in the order in which they were made. A release of loop i answers
--- the save of that loop, and a release of all loops that of a session.
--- The pins that stand are theirs: the pin of each of their loops holds the list that is saved, and whoever has a pin on a
--- loop asked for one of them. So the pins of a session stand on all loops or on none.
+-- The saves of a run that no release has answered yet, in the order in which they were made. A
+-- release of loop i answers the save of that loop, and a release of all loops that of a session.
+-- The pins that stand are theirs: the pin of each of their loops holds the list that is saved, and
+-- whoever has a pin on a loop asked for one of them. So the pins of a session stand on all loops or
+-- on none.
 -- "Saves" in docs/rules.md.
 use Rattle.std.specs.Prelude.{◌≡◌, ◌⊎◌, ℕ, ◌+◌, Bool, true, false, not, ◌==◌, List, [], ◌∷◌, ◌++◌, length, map, filter, Option, Some, None, IfSome, IsTrue, is_some, slice_get, option_map, option_to_list, if◌then◌else◌}
 use Rattle.std.specs.List.{AllByRecursion}
@@ -27,7 +28,8 @@ answers _ _ = false
 
 -- those of these saves that stay unanswered behind a command
 abbrev pub still_unanswered : Command → List Save → List Save
-still_unanswered (Release target outcome) saves = filter (λ (s : Save). not (answers target s.target)) saves
+still_unanswered (Release target outcome) saves =
+    filter (λ (s : Save). not (answers target s.target)) saves
 still_unanswered _ saves = saves
 
 -- the unanswered saves behind an entry that meets this looper
@@ -38,14 +40,16 @@ unanswered_after e l saves =
 -- those behind these entries, applied at a frame
 abbrev pub unanswered_entered : ℕ → List Entry → Looper → List Save → List Save
 unanswered_entered frame [] l saves = saves
-unanswered_entered frame (e ∷ es) l saves = unanswered_entered frame es (applied frame e l) (unanswered_after e l saves)
+unanswered_entered frame (e ∷ es) l saves =
+    unanswered_entered frame es (applied frame e l) (unanswered_after e l saves)
 
 -- those behind these frames, of which the first has this number
 abbrev pub unanswered_begun : ℕ → List Entry → List Sound → Looper → List Save → List Save
 unanswered_begun frame es [] l saves = saves
 unanswered_begun frame es (x ∷ xs) l saves =
     let before = (entered frame (due frame es) l).looper
-    in unanswered_begun (frame + 1) (later frame es) xs (framed frame x before).looper (unanswered_entered frame (due frame es) l saves)
+    in unanswered_begun (frame + 1) (later frame es) xs (framed frame x before).looper
+    (unanswered_entered frame (due frame es) l saves)
 
 -- those behind a run
 abbrev pub unanswered : List Entry → List Sound → Looper → List Save
@@ -72,7 +76,8 @@ holds_of l = map hold_on l.tracks
 -- a loop's save has its one list there
 abbrev pub HoldsLoop : List (List Sound) → Option Hold → Type 0
 HoldsLoop lists None = ⊥
-HoldsLoop lists (Some h) = (h.list ∷ [] ≡ map (λ list. Some list) lists) × IsTrue (is_some (loop_asker h.asker))
+HoldsLoop lists (Some h) = (h.list ∷ [] ≡ map (λ list. Some list) lists)
+    × IsTrue (is_some (loop_asker h.asker))
 
 -- a session's save has its lists there
 pub record HoldsSession (lists : List (List Sound)) (holds : List Hold) : Type 0 where

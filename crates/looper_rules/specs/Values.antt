@@ -1,10 +1,10 @@
--- What is read of a loop comes from its controls, its face and the free chunks, and what is read of the looper from its
--- own controls. A value above 2147483647 is told as that number.
--- loop_len is the length of the current list, loop_pos pos, cycle_len the cycle, layers and redo_layers how many there
--- are, refused the loop's count, waiting 1 where a verb waits, reversed 1 where backward, free_time the frames of the
--- free chunks.
--- state is 1 in WaitStart, and in Off where `record` waits; 3 in Recording where a verb waits, and in Multiplying and
--- Inserting while rounding; else the number of the mode.
+-- What is read of a loop comes from its controls, its face and the free chunks, and what is read of
+-- the looper from its own controls. A value above 2147483647 is told as that number.
+-- loop_len is the length of the current list, loop_pos pos, cycle_len the cycle, layers and
+-- redo_layers how many there are, refused the loop's count, waiting 1 where a verb waits, reversed
+-- 1 where backward, free_time the frames of the free chunks.
+-- state is 1 in WaitStart, and in Off where `record` waits; 3 in Recording where a verb waits, and
+-- in Multiplying and Inserting while rounding; else the number of the mode.
 -- A set of a control puts its value in place of the one before.
 -- "Values" in docs/rules.md.
 use Rattle.std.specs.Prelude.{ℕ, min, ℤ, pos, negsuc, unsigned_abs, Bool, true, false, IsTrue, Option, Some, is_some, if◌then◌else◌}

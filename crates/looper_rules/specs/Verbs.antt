@@ -1,22 +1,26 @@
--- What a verb does goes by where the loop is: in Off, in the verb's own writing mode, in another writing mode, or elsewhere.
+-- What a verb does goes by where the loop is: in Off, in the verb's own writing mode, in another
+-- writing mode, or elsewhere.
 --
--- verb                           in Off    in its own writing mode   in another writing mode                 elsewhere
--- record                         starts    closes                    closes, then starts                     starts
--- overdub, replace, substitute   nothing   closes                    closes, then starts                     starts
--- multiply, insert               nothing   ends                      nothing if backward, else as overdub    nothing if backward, else starts
--- mute                           nothing   -                         closes, Muted                           Muted to Playing, else Muted
--- mute_on                        nothing   -                         closes, Muted                           Muted
--- mute_off                       nothing   -                         nothing                                 Muted to Playing, else nothing
--- pause                          nothing   -                         closes, Paused                          Paused to Playing, else Paused
--- oneshot                        nothing   -                         closes, then as elsewhere               pos to the start, OneShot
--- trigger                        nothing   -                         closes, then as elsewhere               pos to the start, Playing
--- reverse                        nothing   -                         turns, see below                        turns
--- undo, redo and those of all go the same way everywhere.
+-- verb                           in Off    in its own writing mode   in another writing mode
+-- elsewhere record                         starts    closes                    closes, then starts
+-- starts overdub, replace, substitute   nothing   closes                    closes, then starts
+-- starts multiply, insert               nothing   ends                      nothing if backward,
+-- else as overdub    nothing if backward, else starts mute                           nothing   -
+-- closes, Muted                           Muted to Playing, else Muted mute_on
+-- nothing   -                         closes, Muted                           Muted mute_off
+-- nothing   -                         nothing                                 Muted to Playing,
+-- else nothing pause                          nothing   -                         closes, Paused
+-- Paused to Playing, else Paused oneshot                        nothing   -
+-- closes, then as elsewhere               pos to the start, OneShot trigger
+-- nothing   -                         closes, then as elsewhere               pos to the start,
+-- Playing reverse                        nothing   -                         turns, see below
+-- turns undo, redo and those of all go the same way everywhere.
 --
--- Where closing has made the mode Off, nothing more is done. The start is 0 forward and the length less 1 backward.
--- A multiply or insert ends by closing where round is 0, where it is rounding already, or at its stop; else it rounds.
--- A reverse in Recording, Multiplying and Inserting closes and then turns; in another writing mode it turns, and no run goes on.
--- In WaitStart `record` only leaves it. Every other verb leaves it first, and then acts from the new mode.
+-- Where closing has made the mode Off, nothing more is done. The start is 0 forward and the length
+-- less 1 backward. A multiply or insert ends by closing where round is 0, where it is rounding
+-- already, or at its stop; else it rounds. A reverse in Recording, Multiplying and Inserting closes
+-- and then turns; in another writing mode it turns, and no run goes on. In WaitStart `record` only
+-- leaves it. Every other verb leaves it first, and then acts from the new mode.
 -- "Verbs" in docs/rules.md.
 use Rattle.std.specs.Prelude.{ℕ, ◌-◌, Bool, true, false, ◌||◌, ◌==◌, if◌then◌else◌}
 use Rattle.sl_commands.specs.declared.Verb.{Verb}

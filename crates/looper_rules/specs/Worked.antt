@@ -1,5 +1,6 @@
--- Short words for worked runs: what comes in, in 16-bit samples and timed commands, and what is left, in layers and loops.
--- Unless a run says otherwise, all controls have their first values, and there are 4096 chunks.
+-- Short words for worked runs: what comes in, in 16-bit samples and timed commands, and what is
+-- left, in layers and loops. Unless a run says otherwise, all controls have their first values, and
+-- there are 4096 chunks.
 -- "The run" in docs/rules.md.
 use Rattle.std.specs.Prelude.{ℕ, suc, pos, negsuc, List, [], ◌∷◌, map, Option, Some, None}
 use Rattle.sl_base.specs.Arithmetic.{widened}
@@ -35,14 +36,16 @@ hit k verb = Hit (One k) verb
 
 -- an entry
 abbrev pub entry : ℕ → ℕ → ℕ → Command → Entry
-entry frame sender seq command = record { frame = frame; sender = sender; seq = seq; command = command }
+entry frame sender seq command =
+    record { frame = frame; sender = sender; seq = seq; command = command }
 
 -- commands with their frames, stamped: releases from the saver, all others as OSC
 abbrev pub stamped_from : ℕ → ℕ → List (ℕ × Command) → List Entry
 stamped_from osc saver [] = []
 stamped_from osc saver ((frame, Release target outcome) ∷ cs) =
     entry frame 2 saver (Release target outcome) ∷ stamped_from osc (suc saver) cs
-stamped_from osc saver ((frame, command) ∷ cs) = entry frame 0 osc command ∷ stamped_from (suc osc) saver cs
+stamped_from osc saver ((frame, command) ∷ cs) =
+    entry frame 0 osc command ∷ stamped_from (suc osc) saver cs
 
 abbrev pub journal : List (ℕ × Command) → List Entry
 journal cs = stamped_from 0 0 cs
@@ -53,9 +56,11 @@ new_looper loops chunks = start (default_settings 48000 loops) chunks []
 
 -- what a run gave and left
 abbrev pub gave : List Sound → List Reply → List Save → Looper → Ran
-gave output replies saves left = record { output = output; replies = replies; saves = saves; looper = left }
+gave output replies saves left =
+    record { output = output; replies = replies; saves = saves; looper = left }
 
--- the reply of a loop's value to an entry that came as OSC: its seq, the loop's index, the control and the value
+-- the reply of a loop's value to an entry that came as OSC: its seq, the loop's index, the control
+-- and the value
 abbrev pub value_reply : ℕ → ℕ → Control → ℕ → Reply
 value_reply seq k control value =
     record {
@@ -68,7 +73,8 @@ value_reply seq k control value =
 
 -- the reply to the save of a loop: the seq of the save, the loop's index, and how it ended
 abbrev pub save_reply : ℕ → ℕ → ℕ → Reply
-save_reply seq k outcome = record { sender = 0; seq = seq; index = pos k; what = OfLoop; value = pos outcome }
+save_reply seq k outcome =
+    record { sender = 0; seq = seq; index = pos k; what = OfLoop; value = pos outcome }
 
 -- the reply to the save of a session: the seq of the save, and how it ended
 abbrev pub session_reply : ℕ → ℕ → Reply
@@ -123,7 +129,8 @@ layer list cycle end seams =
       seams = seams;
     }
 
--- the layer that was opened at this tape length over one of this list, cycle and seams, and of which these cells are left
+-- the layer that was opened at this tape length over one of this list, cycle and seams, and of
+-- which these cells are left
 abbrev pub open_layer : List (Cell Sound) → Layer Sound → ℕ → ℕ → Layer Sound
 open_layer cells below end seams =
     record {
@@ -153,7 +160,8 @@ recorded_layer list end seams =
 
 -- layers, redo layers and tape length, with no pin and no run
 abbrev pub stack : List (Layer Sound) → List (Layer Sound) → ℕ → Stack Sound
-stack layers redo tape = record { layers = layers; redo = redo; tape = tape; pin = None; run = None }
+stack layers redo tape =
+    record { layers = layers; redo = redo; tape = tape; pin = None; run = None }
 
 -- the last write of a run
 abbrev pub last_write : ℕ → How → Option LastWrite

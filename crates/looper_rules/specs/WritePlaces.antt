@@ -1,5 +1,6 @@
--- A write over a cell or before it takes a place of the list, and one at the end the place behind the last.
--- Where a run goes on, the next write is in its manner, at the place next to its last one.
+-- A write over a cell or before it takes a place of the list, and one at the end the place behind
+-- the last. Where a run goes on, the next write is in its manner, at the place next to its last
+-- one.
 -- "Writing" and "The stack" in docs/rules.md.
 use Rattle.std.specs.Prelude.{◌≡◌, ◌<◌, ℕ, ⊤, Option, Some, None}
 use Rattle.sl_commands.specs.declared.How.{How}

@@ -1,10 +1,12 @@
--- A write puts one frame over the one at a place, before it, or at the end of the open layer's list.
+-- A write puts one frame over the one at a place, before it, or at the end of the open layer's
+-- list.
 -- Over a fresh cell it keeps the tape length and ends the run, and it always fits.
--- Every other write makes a new cell: it adds one to the tape length, leaves the cell fresh, adds 2 seams where no run
--- goes on, and then a run goes on. It fits where the loop has room, and a run goes on or the total seams are at most
--- 65534, and, before a place or at the end, the list has fewer than 16777216 frames.
--- Extending appends the base, not fresh, and adds its seams. It fits where the list then has at most 16777216 frames
--- and the total seams are at most 65536.
+-- Every other write makes a new cell: it adds one to the tape length, leaves the cell fresh, adds 2
+-- seams where no run goes on, and then a run goes on. It fits where the loop has room, and a run
+-- goes on or the total seams are at most 65534, and, before a place or at the end, the list has
+-- fewer than 16777216 frames.
+-- Extending appends the base, not fresh, and adds its seams. It fits where the list then has at
+-- most 16777216 frames and the total seams are at most 65536.
 -- "Writing" in docs/rules.md.
 use Rattle.std.specs.Prelude.{ℕ, ◌+◌, ◌-◌, Bool, true, false, ◌&&◌, ◌||◌, List, [], ◌∷◌, ◌++◌, Some, None, is_some, slice_get, slice_set, insert, nat_lt, nat_le, if◌then◌else◌}
 use Rattle.sl_commands.specs.declared.How.{How}
@@ -53,7 +55,8 @@ with_written how place a seams l =
 
 -- the stack after a write over a fresh cell
 abbrev pub rewritten : {A : Type 0} → How → ℕ → A → Stack A → Stack A
-rewritten how place a s = record s { layers = with_current (with_written how place a 0) s.layers; run = None }
+rewritten how place a s =
+    record s { layers = with_current (with_written how place a 0) s.layers; run = None }
 
 -- the stack after a write that makes a new cell
 abbrev pub newly_written : {A : Type 0} → How → ℕ → A → Stack A → Stack A
@@ -66,7 +69,8 @@ newly_written how place a s =
 
 -- the stack after a write that fits
 abbrev pub written : {A : Type 0} → How → ℕ → A → Stack A → Stack A
-written how place a s = if meets_fresh how place s then rewritten how place a s else newly_written how place a s
+written how place a s = if meets_fresh how place s then rewritten how place a s else
+    newly_written how place a s
 
 -- whether the base fits once more
 abbrev pub extension_fits : {A : Type 0} → Stack A → Bool

@@ -1,16 +1,20 @@
 //! What the looper does: definitions and worked runs, no code.
 //!
-//! - A loop is a stack of whole lists of frames, with a mode and a place. `specs/Layers` to `specs/LoopFrame` say what
-//!   verbs, presses and frames do to it, `specs/Values` what is read of it.
-//! - A looper is its loops with their gains, saves and chunks. `specs/Looper` to `specs/Frame` say what entries and frames
-//!   do to it, `specs/Run` what a whole run gives: output, replies, saves and the last looper.
+//! - A loop is a stack of whole lists of frames, with a mode and a place. `specs/Layers` to
+//!   `specs/LoopFrame` say what verbs, presses and frames do to it, `specs/Values` what is read of
+//!   it.
+//! - A looper is its loops with their gains, saves and chunks. `specs/Looper` to `specs/Frame` say
+//!   what entries and frames do to it, `specs/Run` what a whole run gives: output, replies, saves
+//!   and the last looper.
 //! - `specs/Cuts` and `specs/Pins` have the parts of a run, and what holds a list that is saved.
-//! - `specs/States` has what holds of every loop and looper that a run reaches, `specs/Reached` what makes it last, and
-//!   `specs/Sharing` how loops share the chunks.
-//! - `specs/OneLoop` has the single loop that `render` plays: it records between two hits and then repeats.
+//! - `specs/States` has what holds of every loop and looper that a run reaches, `specs/Reached`
+//!   what makes it last, and `specs/Sharing` how loops share the chunks.
+//! - `specs/OneLoop` has the single loop that `render` plays: it records between two hits and then
+//!   repeats.
 //!
-//! Begin with `specs/Layers` and follow the order of `specs/Lib`. The functions here are worked runs, whose clauses compute.
-//! What holds of the definitions is proved in the crate `looper_laws`. The rules are docs/rules.md, under the same headings.
+//! Begin with `specs/Layers` and follow the order of `specs/Lib`. The functions here are worked
+//! runs, whose clauses compute. What holds of the definitions is proved in the crate `looper_laws`.
+//! The rules are docs/rules.md, under the same headings.
 #![tactic(auto)]
 
 mod one_loop;

@@ -93,7 +93,8 @@ fn tell_answer<W: Write>(out: &mut W, message: &Message, loops: u8, from: Addr) 
     }
 }
 
-/// Tells what each message of a packet asks for, or the number of its fault; or the fault of the packet.
+/// Tells what each message of a packet asks for, or the number of its fault; or the fault of the
+/// packet.
 pub fn tell_asked<W: Write>(
     out: &mut W,
     alloc: Global,

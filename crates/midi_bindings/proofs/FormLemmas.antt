@@ -21,6 +21,8 @@ long_has_no_form (a ∷ []) long = absurd (omega arith)
 long_has_no_form (a ∷ b ∷ []) long = absurd (omega arith)
 long_has_no_form (a ∷ b ∷ c ∷ []) long = absurd (omega arith)
 long_has_no_form (a ∷ b ∷ c ∷ d ∷ words) long =
-    let give : have_shapes (Integer ∷ Word ∷ []) words ≡ false = not_as_many (Integer ∷ Word ∷ []) words (λ e. omega arith) in
-    let sweep : have_shapes (Integer ∷ Word ∷ Integer ∷ Integer ∷ []) words ≡ false = not_as_many (Integer ∷ Word ∷ Integer ∷ Integer ∷ []) words (λ e. omega arith) in
+    let give : have_shapes (Integer ∷ Word ∷ []) words ≡ false =
+    not_as_many (Integer ∷ Word ∷ []) words (λ e. omega arith) in
+    let sweep : have_shapes (Integer ∷ Word ∷ Integer ∷ Integer ∷ []) words ≡ false =
+    not_as_many (Integer ∷ Word ∷ Integer ∷ Integer ∷ []) words (λ e. omega arith) in
     simp (give, sweep, and-false) refl

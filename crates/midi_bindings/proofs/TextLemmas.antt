@@ -12,30 +12,39 @@ abbrev AreValid : ℕ → List Binding → Type 0
 AreValid loops bindings = AllByRecursion (λ binding. IsTrue (is_binding loops binding)) bindings
 
 -- one more at the end
-all_pushed : (loops : ℕ) (before : List Binding) (binding : Binding) → AreValid loops before → IsTrue (is_binding loops binding) → AreValid loops (before ++ binding ∷ [])
+all_pushed : (loops : ℕ) (before : List Binding) (binding : Binding) → AreValid loops before →
+    IsTrue (is_binding loops binding) → AreValid loops (before ++ binding ∷ [])
 all_pushed loops [] binding are is = (is, tt)
 all_pushed loops (b ∷ before) binding are is = (are.0, all_pushed loops before binding are.1 is)
 
-pub are_pushed : (before : List Binding) (binding : Binding) → AreBindings max_loops before → length before < max_binding_lines → IsTrue (is_binding max_loops binding) → AreBindings max_loops (before ++ binding ∷ [])
+pub are_pushed : (before : List Binding) (binding : Binding) → AreBindings max_loops before →
+    length before < max_binding_lines → IsTrue (is_binding max_loops binding) →
+    AreBindings max_loops (before ++ binding ∷ [])
 are_pushed before binding are room is = record {
   few = omega (arith, length-append before (binding ∷ []));
   valid = all_pushed max_loops before binding are.valid is;
 }
 
 -- those that may stand one behind another are valid
-stand_valid : (loops : ℕ) (before bindings : List Binding) → MayAllFollow (bindings_form loops) before bindings → AreValid loops bindings
+stand_valid : (loops : ℕ) (before bindings : List Binding) →
+    MayAllFollow (bindings_form loops) before bindings → AreValid loops bindings
 stand_valid loops before [] follow = tt
-stand_valid loops before (b ∷ bindings) follow = (follow.0.valid, stand_valid loops (before ++ b ∷ []) bindings follow.1)
+stand_valid loops before (b ∷ bindings) follow =
+    (follow.0.valid, stand_valid loops (before ++ b ∷ []) bindings follow.1)
 
 -- and few
-stand_few : (loops : ℕ) (before bindings : List Binding) → MayAllFollow (bindings_form loops) before bindings → length before ≤ max_binding_lines → length before + length bindings ≤ max_binding_lines
+stand_few : (loops : ℕ) (before bindings : List Binding) →
+    MayAllFollow (bindings_form loops) before bindings → length before ≤ max_binding_lines →
+    length before + length bindings ≤ max_binding_lines
 stand_few loops before [] follow few = omega arith
 stand_few loops before (b ∷ bindings) follow few =
-    let rest = stand_few loops (before ++ b ∷ []) bindings follow.1 (omega (arith, follow.0.room, length-append before (b ∷ []))) in
+    let rest = stand_few loops (before ++ b ∷ []) bindings follow.1
+    (omega (arith, follow.0.room, length-append before (b ∷ []))) in
     omega (arith, rest, length-append before (b ∷ []))
 
 -- a text of the form is that of bindings
-pub text_is_bindings : (loops : ℕ) (bytes : List ℕ) (bindings : List Binding) → IsText (bindings_form loops) bytes bindings → IsBindings loops bytes bindings
+pub text_is_bindings : (loops : ℕ) (bytes : List ℕ) (bindings : List Binding) →
+    IsText (bindings_form loops) bytes bindings → IsBindings loops bytes bindings
 text_is_bindings loops bytes bindings is = record {
   whole = record {
     few = omega (arith, stand_few loops [] bindings is.follow (omega arith));
@@ -45,13 +54,17 @@ text_is_bindings loops bytes bindings is = record {
 }
 
 -- bindings may stand one behind another
-stands : (loops : ℕ) (before bindings : List Binding) → AreValid loops bindings → length before + length bindings ≤ max_binding_lines → MayAllFollow (bindings_form loops) before bindings
+stands : (loops : ℕ) (before bindings : List Binding) → AreValid loops bindings → length before
+    + length bindings ≤ max_binding_lines → MayAllFollow (bindings_form loops) before bindings
 stands loops before [] are few = tt
-stands loops before (b ∷ bindings) are few =
-    (record { room = omega arith; valid = are.0 }, stands loops (before ++ b ∷ []) bindings are.1 (omega (arith, length-append before (b ∷ []))))
+stands loops before (b ∷ bindings) are few = (
+  record { room = omega arith; valid = are.0 },
+  stands loops (before ++ b ∷ []) bindings are.1 (omega (arith, length-append before (b ∷ []))),
+)
 
 -- and their text is one of the form
-pub bindings_are_text : (loops : ℕ) (bytes : List ℕ) (bindings : List Binding) → IsBindings loops bytes bindings → IsText (bindings_form loops) bytes bindings
+pub bindings_are_text : (loops : ℕ) (bytes : List ℕ) (bindings : List Binding) →
+    IsBindings loops bytes bindings → IsText (bindings_form loops) bytes bindings
 bindings_are_text loops bytes bindings is = record {
   follow = stands loops [] bindings is.whole.valid (omega (arith, is.whole.few));
   due = tt;

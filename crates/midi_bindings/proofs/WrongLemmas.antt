@@ -14,9 +14,12 @@ use Rattle.midi_bindings.proofs.BindingLemmas.{binding_has_words, line_whole, li
 use Rattle.midi_bindings.proofs.OneLemmas.{line_is_of_one}
 
 -- a line that is a binding's has a form and is that binding's
-binding_has_no_fault : (loops : ℕ) (line : List ℕ) (binding : Binding) (kind : TextKind) → loops ≤ max_loops → IsTrue (is_binding loops binding) → line ≡ binding_line binding → ¬ HasNoBinding loops line kind
+binding_has_no_fault : (loops : ℕ) (line : List ℕ) (binding : Binding) (kind : TextKind) →
+    loops ≤ max_loops → IsTrue (is_binding loops binding) → line ≡ binding_line binding →
+    ¬ HasNoBinding loops line kind
 binding_has_no_fault loops line binding Form few is same none =
-    false≢true (sym none ∙ ap (λ l. is_form (words_in l)) same ∙ line_has_form binding (binding_has_words loops binding few is))
+    false≢true (sym none ∙ ap (λ l. is_form (words_in l)) same
+    ∙ line_has_form binding (binding_has_words loops binding few is))
 binding_has_no_fault loops line binding Value few is same none = none.1 binding is same
 binding_has_no_fault loops line binding Header few is same none = none
 binding_has_no_fault loops line binding Order few is same none = none
@@ -24,7 +27,8 @@ binding_has_no_fault loops line binding TooMany few is same none = none
 binding_has_no_fault loops line binding Ending few is same none = none
 
 -- without a binding there is one kind of fault
-no_binding_is_one : (loops : ℕ) (line : List ℕ) (kind other : TextKind) → HasNoBinding loops line kind → HasNoBinding loops line other → kind ≡ other
+no_binding_is_one : (loops : ℕ) (line : List ℕ) (kind other : TextKind) →
+    HasNoBinding loops line kind → HasNoBinding loops line other → kind ≡ other
 no_binding_is_one loops line Form Form none none_too = refl
 no_binding_is_one loops line Form Value none none_too = absurd (false≢true (sym none ∙ none_too.0))
 no_binding_is_one loops line Value Form none none_too = absurd (false≢true (sym none_too ∙ none.0))
@@ -43,20 +47,71 @@ no_binding_is_one loops line Value TooMany none none_too = absurd none_too
 no_binding_is_one loops line Value Ending none none_too = absurd none_too
 
 -- a line that may stand isn't wrong
-stands_or_is_wrong : (loops : ℕ) (before : List Binding) (binding : Binding) (kind : TextKind) → loops ≤ max_loops → MayStand loops before binding → ¬ IsWrong loops before (binding_line binding) kind
-stands_or_is_wrong loops before binding kind few may (one_too_many full is) = omega (arith, may.room)
-stands_or_is_wrong loops before binding kind few may (no_binding room none) = binding_has_no_fault loops (binding_line binding) binding kind few may.valid refl none
+stands_or_is_wrong : (loops : ℕ) (before : List Binding) (binding : Binding) (kind : TextKind) →
+    loops ≤ max_loops → MayStand loops before binding →
+    ¬ IsWrong loops before (binding_line binding) kind
+stands_or_is_wrong loops before binding kind few may (one_too_many full is) =
+    omega (arith, may.room)
+stands_or_is_wrong loops before binding kind few may (no_binding room none) =
+    binding_has_no_fault loops (binding_line binding) binding kind few may.valid refl none
 
 -- a wrong line has one kind of fault
-wrong_is_one : (loops : ℕ) (before : List Binding) (line : List ℕ) (kind other : TextKind) → IsWrong loops before line kind → IsWrong loops before line other → kind ≡ other
-wrong_is_one loops before line kind other (one_too_many full is) (one_too_many full_too is_too) = is ∙ sym is_too
-wrong_is_one loops before line kind other (one_too_many full is) (no_binding room none) = absurd (omega arith)
-wrong_is_one loops before line kind other (no_binding room none) (one_too_many full is) = absurd (omega arith)
-wrong_is_one loops before line kind other (no_binding room none) (no_binding room_too none_too) = no_binding_is_one loops line kind other none none_too
+wrong_is_one : (loops : ℕ) (before : List Binding) (line : List ℕ) (kind other : TextKind) →
+    IsWrong loops before line kind → IsWrong loops before line other → kind ≡ other
+wrong_is_one loops before line kind other (one_too_many full is) (one_too_many full_too is_too) =
+    is ∙ sym is_too
+wrong_is_one loops before line kind other (one_too_many full is) (no_binding room none) =
+    absurd (omega arith)
+wrong_is_one loops before line kind other (no_binding room none) (one_too_many full is) =
+    absurd (omega arith)
+wrong_is_one loops before line kind other (no_binding room none) (no_binding room_too none_too) =
+    no_binding_is_one loops line kind other none none_too
 
 -- the header is whole
 header_is_whole : Lacks 10 bindings_header
-header_is_whole = (λ e. Prim.omega arith, (λ e. Prim.omega arith, (λ e. Prim.omega arith, (λ e. Prim.omega arith, (λ e. Prim.omega arith, (λ e. Prim.omega arith, (λ e. Prim.omega arith, (λ e. Prim.omega arith, (λ e. Prim.omega arith, (λ e. Prim.omega arith, (λ e. Prim.omega arith, (λ e. Prim.omega arith, (λ e. Prim.omega arith, (λ e. Prim.omega arith, (λ e. Prim.omega arith, (λ e. Prim.omega arith, (λ e. Prim.omega arith, tt)))))))))))))))))
+header_is_whole = (
+  λ e. Prim.omega arith,
+  (
+    λ e. Prim.omega arith,
+    (
+      λ e. Prim.omega arith,
+      (
+        λ e. Prim.omega arith,
+        (
+          λ e. Prim.omega arith,
+          (
+            λ e. Prim.omega arith,
+            (
+              λ e. Prim.omega arith,
+              (
+                λ e. Prim.omega arith,
+                (
+                  λ e. Prim.omega arith,
+                  (
+                    λ e. Prim.omega arith,
+                    (
+                      λ e. Prim.omega arith,
+                      (
+                        λ e. Prim.omega arith,
+                        (
+                          λ e. Prim.omega arith,
+                          (
+                            λ e. Prim.omega arith,
+                            (λ e. Prim.omega arith, (λ e. Prim.omega arith, (λ e. Prim.omega arith, tt))),
+                          ),
+                        ),
+                      ),
+                    ),
+                  ),
+                ),
+              ),
+            ),
+          ),
+        ),
+      ),
+    ),
+  ),
+)
 
 -- bindings are a settled form
 pub bindings_are_settled : (loops : ℕ) → loops ≤ max_loops → IsSettled (bindings_form loops)
@@ -64,7 +119,9 @@ bindings_are_settled loops few = record {
   whole_header = header_is_whole;
   whole = λ before b may. line_whole b (binding_has_words loops b few may.valid);
   not_end = λ before b may. line_is_not_end b (binding_has_words loops b few may.valid);
-  one = λ before b c may may_too same. line_is_of_one b c (binding_has_words loops b few may.valid) (binding_has_words loops c few may_too.valid) same;
+  one = λ before b c may may_too same. line_is_of_one b c (binding_has_words loops b few may.valid)
+      (binding_has_words loops c few may_too.valid) same;
   good = λ before b kind may. stands_or_is_wrong loops before b kind few may;
-  one_kind = λ before line kind other wrong wrong_too. wrong_is_one loops before line kind other wrong wrong_too;
+  one_kind = λ before line kind other wrong wrong_too.
+      wrong_is_one loops before line kind other wrong wrong_too;
 }

@@ -16,8 +16,10 @@ abbrev pub is_event_of : BindKind → ℕ → ℕ → MidiEvent → Bool
 is_event_of On channel number (NoteOn c n velocity) = c == channel && n == number
 is_event_of Off channel number (NoteOff c n) = c == channel && n == number
 is_event_of Program channel number (ProgramChange c n) = c == channel && n == number
-is_event_of High channel number (ControlChange c n value) = c == channel && n == number && nat_le 64 value
-is_event_of Low channel number (ControlChange c n value) = c == channel && n == number && nat_lt value 64
+is_event_of High channel number (ControlChange c n value) =
+    c == channel && n == number && nat_le 64 value
+is_event_of Low channel number (ControlChange c n value) =
+    c == channel && n == number && nat_lt value 64
 is_event_of kind channel number event = Bool.false
 
 -- the value of a sweep at a value of its controller
@@ -26,7 +28,8 @@ swept low high value = low +ℤ int_div ((high -ℤ low) *ℤ pos value) (pos 12
 
 -- what a binding gives at an event
 abbrev pub given : Binding → MidiEvent → Option Command
-given (Give kind channel number command) event = if is_event_of kind channel number event then Some command else None
+given (Give kind channel number command) event = if is_event_of kind channel number event then
+    Some command else None
 given (Sweep channel number target control low high) (ControlChange c n value) =
     if c == channel && n == number then Some (Set target control (swept low high value)) else None
 given (Sweep channel number target control low high) event = None

@@ -1,4 +1,5 @@
--- While bindings are read line by line, a line is taken behind the lines so far, or it is wrong there.
+-- While bindings are read line by line, a line is taken behind the lines so far, or it is wrong
+-- there.
 -- "Bindings" in docs/formats.md.
 use Rattle.std.specs.Prelude.{ℕ, ◌≡◌, List, [], ◌∷◌, ◌++◌, ⊤}
 use Rattle.midi_bindings.specs.declared.binding.Binding.{Binding}
@@ -11,7 +12,8 @@ use Rattle.midi_bindings.specs.declared.reader.Refused.{Refused}
 use Rattle.midi_bindings.specs.declared.reader.Refused.TheVariants.{Wrong, Memory as NoMemory}
 
 -- the line is that of a binding that may stand behind those so far, and it now does
-pub record IsTaken (loops : ℕ) (before : List Binding) (line : List ℕ) (after : List Binding) : Type 0 where
+pub record IsTaken (loops : ℕ) (before : List Binding) (line : List ℕ)
+    (after : List Binding) : Type 0 where
   pub binding : Binding
   pub spelled : line ≡ binding_line binding
   pub may : MayStand loops before binding

@@ -1,6 +1,7 @@
--- Bindings are a text: `looper bindings 1`, the lines of the bindings and `end`. There are at most 1024 lines.
--- A line may stand where its binding says nothing out of range. Where it may not, what is wrong is the first of these: it is
--- one line too many, it has no form, it is the line of no binding.
+-- Bindings are a text: `looper bindings 1`, the lines of the bindings and `end`. There are at most
+-- 1024 lines. A line may stand where its binding says nothing out of range. Where it may not, what
+-- is wrong is the first of these: it is one line too many, it has no form, it is the line of no
+-- binding.
 -- "Bindings" in docs/formats.md.
 use Rattle.std.specs.Prelude.{ℕ, ◌≡◌, ◌≢◌, ◌≤◌, ◌<◌, IsTrue, IsFalse, List, length, codes, ⊤}
 use Rattle.std.specs.List.{AllByRecursion}
@@ -28,15 +29,18 @@ pub record MayStand (loops : ℕ) (before : List Binding) (binding : Binding) : 
 -- the line has no form, or it has one and is the line of no binding
 abbrev pub HasNoBinding : ℕ → List ℕ → TextKind → Type 0
 HasNoBinding loops line Form = IsFalse (is_form (words_in line))
-HasNoBinding loops line Value = IsTrue (is_form (words_in line)) × ((binding : Binding) → IsTrue (is_binding loops binding) → line ≢ binding_line binding)
+HasNoBinding loops line Value = IsTrue (is_form (words_in line))
+    × ((binding : Binding) → IsTrue (is_binding loops binding) → line ≢ binding_line binding)
 HasNoBinding loops line _ = ⊥
 
 -- what is wrong with a line behind those of these
-pub data IsWrong (loops : ℕ) (before : List Binding) (line : List ℕ) (kind : TextKind) : Type 0 where
+pub data IsWrong (loops : ℕ) (before : List Binding) (line : List ℕ)
+    (kind : TextKind) : Type 0 where
   -- it is one line too many
   one_too_many : max_binding_lines ≤ length before → kind ≡ TooMany → IsWrong loops before line kind
   -- it has no form, or is the line of no binding
-  no_binding : length before < max_binding_lines → HasNoBinding loops line kind → IsWrong loops before line kind
+  no_binding : length before < max_binding_lines → HasNoBinding loops line kind →
+      IsWrong loops before line kind
 
 -- bindings as a form of text: `end` may stand behind any line
 abbrev pub bindings_form : ℕ → TextForm Binding

@@ -71,7 +71,8 @@ impl Bindings {
         self.lines.len() as u32
     }
 
-    /// The command of the first line that the event matches, or None exactly where it matches none. No memory is taken.
+    /// The command of the first line that the event matches, or None exactly where it matches none.
+    /// No memory is taken.
     pub fn lookup(&self, event: MidiEvent) -> Option<Command>
         ensures { result ≡ looked_up self.now event }
     {

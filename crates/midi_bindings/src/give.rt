@@ -16,7 +16,8 @@ use text_lines::{behind, number_of, target_of};
 
 fn down_of(words: &[&[u8]]) -> Option<Command>
     ensures found { IfSome result (λ command. SpellPress (map (λ w. w.now) words.now) command) }
-    ensures only { IfNone result ((target : Target) (verb : Verb) → ¬ SpellPress (map (λ w. w.now) words.now) (Command.Down target verb)) }
+    ensures only { IfNone result ((target : Target) (verb : Verb) →
+        ¬ SpellPress (map (λ w. w.now) words.now) (Command.Down target verb)) }
 {
     match behind(words, b"down")? {
         [target, verb] => Some(Command::Down(target_of(target)?, verb_of(verb)?)),
@@ -26,7 +27,8 @@ fn down_of(words: &[&[u8]]) -> Option<Command>
 
 fn up_of(words: &[&[u8]]) -> Option<Command>
     ensures found { IfSome result (λ command. SpellPress (map (λ w. w.now) words.now) command) }
-    ensures only { IfNone result ((target : Target) (verb : Verb) → ¬ SpellPress (map (λ w. w.now) words.now) (Command.Up target verb)) }
+    ensures only { IfNone result ((target : Target) (verb : Verb) →
+        ¬ SpellPress (map (λ w. w.now) words.now) (Command.Up target verb)) }
 {
     match behind(words, b"up")? {
         [target, verb] => Some(Command::Up(target_of(target)?, verb_of(verb)?)),
@@ -36,7 +38,8 @@ fn up_of(words: &[&[u8]]) -> Option<Command>
 
 fn hit_of(words: &[&[u8]]) -> Option<Command>
     ensures found { IfSome result (λ command. SpellPress (map (λ w. w.now) words.now) command) }
-    ensures only { IfNone result ((target : Target) (verb : Verb) → ¬ SpellPress (map (λ w. w.now) words.now) (Command.Hit target verb)) }
+    ensures only { IfNone result ((target : Target) (verb : Verb) →
+        ¬ SpellPress (map (λ w. w.now) words.now) (Command.Hit target verb)) }
 {
     match behind(words, b"hit")? {
         [target, verb] => Some(Command::Hit(target_of(target)?, verb_of(verb)?)),
@@ -47,7 +50,8 @@ fn hit_of(words: &[&[u8]]) -> Option<Command>
 /// The press that words spell, whatever loops there are.
 fn press_of(words: &[&[u8]]) -> Option<Command>
     ensures found { IfSome result (λ command. SpellPress (map (λ w. w.now) words.now) command) }
-    ensures only { IfNone result ((command : Command) → ¬ SpellPress (map (λ w. w.now) words.now) command) }
+    ensures only { IfNone result
+        ((command : Command) → ¬ SpellPress (map (λ w. w.now) words.now) command) }
 {
     if let Some(command) = down_of(words) {
         return Some(command);
@@ -60,7 +64,8 @@ fn press_of(words: &[&[u8]]) -> Option<Command>
 
 fn give_of(words: &[&[u8]]) -> Option<Binding>
     ensures found { IfSome result (λ binding. Spell (map (λ w. w.now) words.now) binding) }
-    ensures only { IfNone result ((kind : BindKind) (channel number : ℕ) (command : Command) → ¬ Spell (map (λ w. w.now) words.now) (Binding.Give kind channel number command)) }
+    ensures only { IfNone result ((kind : BindKind) (channel number : ℕ) (command : Command) →
+        ¬ Spell (map (λ w. w.now) words.now) (Binding.Give kind channel number command)) }
 {
     match words {
         [kind, channel, number, press @ ..] => {
@@ -80,8 +85,10 @@ fn give_of(words: &[&[u8]]) -> Option<Binding>
 }
 
 fn set_of(words: &[&[u8]]) -> Option<(Target, Control, i32, i32)>
-    ensures found { IfSome result (λ set. SpellSet (map (λ w. w.now) words.now) set.0 set.1 set.2 set.3) }
-    ensures only { IfNone result ((target : Target) (control : Control) (low high : ℤ) → ¬ SpellSet (map (λ w. w.now) words.now) target control low high) }
+    ensures found { IfSome result
+        (λ set. SpellSet (map (λ w. w.now) words.now) set.0 set.1 set.2 set.3) }
+    ensures only { IfNone result ((target : Target) (control : Control) (low high : ℤ) →
+        ¬ SpellSet (map (λ w. w.now) words.now) target control low high) }
 {
     match behind(words, b"set")? {
         [target, control, low, high] => {
@@ -99,7 +106,9 @@ fn set_of(words: &[&[u8]]) -> Option<(Target, Control, i32, i32)>
 
 fn sweep_of(words: &[&[u8]]) -> Option<Binding>
     ensures found { IfSome result (λ binding. Spell (map (λ w. w.now) words.now) binding) }
-    ensures only { IfNone result ((channel number : ℕ) (target : Target) (control : Control) (low high : ℤ) → ¬ Spell (map (λ w. w.now) words.now) (Binding.Sweep channel number target control low high)) }
+    ensures only { IfNone result ((channel number : ℕ) (target : Target) (control : Control)
+        (low high : ℤ) → ¬ Spell (map (λ w. w.now) words.now)
+        (Binding.Sweep channel number target control low high)) }
 {
     match behind(words, b"cv")? {
         [channel, number, set @ ..] => {
@@ -124,7 +133,8 @@ fn sweep_of(words: &[&[u8]]) -> Option<Binding>
 /// The binding that words spell, whatever it is allowed for.
 pub fn binding_of(words: &[&[u8]]) -> Option<Binding>
     ensures found { IfSome result (λ binding. Spell (map (λ w. w.now) words.now) binding) }
-    ensures only { IfNone result ((binding : Binding) → ¬ Spell (map (λ w. w.now) words.now) binding) }
+    ensures only { IfNone result
+        ((binding : Binding) → ¬ Spell (map (λ w. w.now) words.now) binding) }
 {
     if let Some(binding) = give_of(words) {
         return Some(binding);

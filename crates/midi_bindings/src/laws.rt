@@ -9,15 +9,22 @@ ghost use Rattle.midi_bindings.specs.Texts.{AreBindings, IsBindings, bindings_fo
 
 /// What is written of bindings is their text, and a text is what is written of its bindings.
 pub fn bindings_come_back()
-    ensures written { (loops : ℕ) (bindings : List Binding) → AreBindings loops bindings → IsBindings loops (bindings_text bindings) bindings }
-    ensures read { (loops : ℕ) (bytes : List ℕ) (bindings : List Binding) → IsBindings loops bytes bindings → bindings_text bindings ≡ bytes }
+    ensures written { (loops : ℕ) (bindings : List Binding) → AreBindings loops bindings →
+        IsBindings loops (bindings_text bindings) bindings }
+    ensures read { (loops : ℕ) (bytes : List ℕ) (bindings : List Binding) →
+        IsBindings loops bytes bindings → bindings_text bindings ≡ bytes }
 {}
 
 /// Bytes have one reading: their bindings, or a first fault.
 pub fn bindings_have_one_reading()
-    ensures bindings { (loops : ℕ) (bytes : List ℕ) (bindings others : List Binding) → loops ≤ max_loops → IsBindings loops bytes bindings → IsBindings loops bytes others → others ≡ bindings }
-    ensures fault { (loops : ℕ) (bytes : List ℕ) (line other : ℕ) (kind kind_too : TextKind) → loops ≤ max_loops
-        → FirstFault (bindings_form loops) bytes line kind → FirstFault (bindings_form loops) bytes other kind_too → (line ≡ other) × (kind ≡ kind_too) }
-    ensures either { (loops : ℕ) (bytes : List ℕ) (bindings : List Binding) (line : ℕ) (kind : TextKind) → loops ≤ max_loops
+    ensures bindings { (loops : ℕ) (bytes : List ℕ) (bindings others : List Binding) →
+        loops ≤ max_loops → IsBindings loops bytes bindings → IsBindings loops bytes others →
+        others ≡ bindings }
+    ensures fault { (loops : ℕ) (bytes : List ℕ) (line other : ℕ) (kind kind_too : TextKind) →
+        loops ≤ max_loops
+        → FirstFault (bindings_form loops) bytes line kind → FirstFault (bindings_form loops) bytes
+        other kind_too → (line ≡ other) × (kind ≡ kind_too) }
+    ensures either { (loops : ℕ) (bytes : List ℕ) (bindings : List Binding) (line : ℕ)
+        (kind : TextKind) → loops ≤ max_loops
         → IsBindings loops bytes bindings → ¬ FirstFault (bindings_form loops) bytes line kind }
 {}

@@ -15,8 +15,10 @@ use text_lines::words_of;
 /// The binding that words spell, where it may stand for so many loops.
 fn valid_of(words: &[&[u8]], loops: u8) -> Option<Binding>
     requires { loops ≤ max_loops }
-    ensures found { IfSome result (λ b. (map (λ w. w.now) words.now ≡ binding_words b) × IsTrue (is_binding loops b)) }
-    ensures only { IfNone result ((b : Binding) → IsTrue (is_binding loops b) → map (λ w. w.now) words.now ≢ binding_words b) }
+    ensures found { IfSome result (λ b. (map (λ w. w.now) words.now ≡ binding_words b)
+        × IsTrue (is_binding loops b)) }
+    ensures only { IfNone result ((b : Binding) → IsTrue (is_binding loops b) →
+        map (λ w. w.now) words.now ≢ binding_words b) }
 {
     let Some(binding) = binding_of(words) else {
         return None;
@@ -28,7 +30,8 @@ fn valid_of(words: &[&[u8]], loops: u8) -> Option<Binding>
     }
 }
 
-/// Reads one line, for so many loops. An error is `Form` where the line has no form, and else `Value`.
+/// Reads one line, for so many loops. An error is `Form` where the line has no form, and else
+/// `Value`.
 pub fn read_line(line: &[u8], loops: u8) -> Result<Binding, TextKind>
     requires { loops ≤ max_loops }
     ensures found { IfOk result (λ b. (line.now ≡ binding_line b) × IsTrue (is_binding loops b)) }

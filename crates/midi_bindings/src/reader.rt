@@ -62,8 +62,10 @@ fn reason(line: u32, refused: Refused) -> ReadText
 /// What the lines behind the header say.
 fn read_lines(alloc: Global, lines: &[u8], loops: u8) -> Result<Bindings, ReadText>
     requires { loops ≤ max_loops }
-    ensures found { IfOk result (λ bindings. IsText (bindings_form loops) (bindings_header ++ (10 ∷ lines.now)) bindings) }
-    ensures fault { IfErr result (IsReason (bindings_form loops) (bindings_header ++ (10 ∷ lines.now))) }
+    ensures found { IfOk result
+        (λ bindings. IsText (bindings_form loops) (bindings_header ++ (10 ∷ lines.now)) bindings) }
+    ensures fault { IfErr result
+        (IsReason (bindings_form loops) (bindings_header ++ (10 ∷ lines.now))) }
 {
     let mut so_far = Bindings::new(alloc);
     let mut rest = lines;
@@ -84,11 +86,13 @@ fn read_lines(alloc: Global, lines: &[u8], loops: u8) -> Result<Bindings, ReadTe
     Err(fault(so_far.count() + 2, TextKind::Ending))
 }
 
-/// Reads bindings for so many loops, 16 at most: their lines, or the first fault. `Memory` may come at any text.
+/// Reads bindings for so many loops, 16 at most: their lines, or the first fault. `Memory` may come
+/// at any text.
 pub fn read_bindings(alloc: Global, bytes: &[u8], loops: u8) -> Result<Bindings, ReadText>
     requires { loops ≤ max_loops }
     ensures found { IfOk result (λ bindings. IsBindings loops bytes.now bindings) }
-    ensures one { IfOk result (λ bindings. (others : List Binding) → IsBindings loops bytes.now others → others ≡ bindings) }
+    ensures one { IfOk result (λ bindings. (others : List Binding) →
+        IsBindings loops bytes.now others → others ≡ bindings) }
     ensures fault { IfErr result (IsReason (bindings_form loops) bytes.now) }
     ensures only { IfErr result (DeniesAll (λ bindings. IsBindings loops bytes.now bindings)) }
 {

@@ -22,7 +22,8 @@ fn write_down(
     target: Target,
     verb: Verb,
 ) -> Result<(), AllocError>
-    ensures { OnOk result (string_bytes out.new ≡ string_bytes out.old ++ binding_line (Binding.Give kind channel number (Command.Down target verb))) }
+    ensures { OnOk result (string_bytes out.new ≡ string_bytes out.old
+        ++ binding_line (Binding.Give kind channel number (Command.Down target verb))) }
 {
     let kind = kind.word();
     let channel = channel as u32 + 1;
@@ -39,7 +40,8 @@ fn write_up(
     target: Target,
     verb: Verb,
 ) -> Result<(), AllocError>
-    ensures { OnOk result (string_bytes out.new ≡ string_bytes out.old ++ binding_line (Binding.Give kind channel number (Command.Up target verb))) }
+    ensures { OnOk result (string_bytes out.new ≡ string_bytes out.old
+        ++ binding_line (Binding.Give kind channel number (Command.Up target verb))) }
 {
     let kind = kind.word();
     let channel = channel as u32 + 1;
@@ -56,7 +58,8 @@ fn write_hit(
     target: Target,
     verb: Verb,
 ) -> Result<(), AllocError>
-    ensures { OnOk result (string_bytes out.new ≡ string_bytes out.old ++ binding_line (Binding.Give kind channel number (Command.Hit target verb))) }
+    ensures { OnOk result (string_bytes out.new ≡ string_bytes out.old
+        ++ binding_line (Binding.Give kind channel number (Command.Hit target verb))) }
 {
     let kind = kind.word();
     let channel = channel as u32 + 1;
@@ -73,7 +76,8 @@ fn write_give(
     number: u8,
     command: &Command,
 ) -> Result<(), AllocError>
-    ensures { OnOk result (string_bytes out.new ≡ string_bytes out.old ++ binding_line (Binding.Give kind channel number command.now)) }
+    ensures { OnOk result (string_bytes out.new ≡ string_bytes out.old
+        ++ binding_line (Binding.Give kind channel number command.now)) }
 {
     match command {
         Command::Down(target, verb) => write_down(out, kind, channel, number, *target, *verb),
@@ -96,7 +100,8 @@ fn write_sweep(
     low: i32,
     high: i32,
 ) -> Result<(), AllocError>
-    ensures { OnOk result (string_bytes out.new ≡ string_bytes out.old ++ binding_line (Binding.Sweep channel number target control low high)) }
+    ensures { OnOk result (string_bytes out.new ≡ string_bytes out.old
+        ++ binding_line (Binding.Sweep channel number target control low high)) }
 {
     let channel = channel as u32 + 1;
     let target = target.number();
@@ -131,7 +136,8 @@ fn write_line(out: &mut String, binding: &Binding) -> Result<(), AllocError>
 
 /// Writes the line of a binding, with its line feed.
 fn write_binding(out: &mut String, binding: &Binding) -> Result<(), AllocError>
-    ensures { OnOk result (string_bytes out.new ≡ string_bytes out.old ++ (binding_line binding.now ++ (10 ∷ []))) }
+    ensures { OnOk result
+        (string_bytes out.new ≡ string_bytes out.old ++ (binding_line binding.now ++ (10 ∷ []))) }
 {
     write_line(out, binding)?;
     out.push_str("\n")

@@ -1,8 +1,8 @@
 -- A byte from 80 to FF hex is a status byte, one below it a data byte.
--- A status byte from 80 to EF begins a kind of event on one of 16 channels. Its data bytes form groups: of one byte for
--- C0 to DF, of two for the others.
--- The status in force behind some bytes is the last from 80 to EF, where none from F0 to F7 came later. Those from F8 on
--- are real-time bytes: they may stand anywhere, and change nothing.
+-- A status byte from 80 to EF begins a kind of event on one of 16 channels. Its data bytes form
+-- groups: of one byte for C0 to DF, of two for the others.
+-- The status in force behind some bytes is the last from 80 to EF, where none from F0 to F7 came
+-- later. Those from F8 on are real-time bytes: they may stand anywhere, and change nothing.
 -- "MIDI" in docs/formats.md.
 use Rattle.std.specs.Prelude.{ℕ, ◌%◌, Bool, ◌||◌, ◌&&◌, ◌==◌, nat_lt, nat_le, if◌then◌else◌, List, [], ◌∷◌, length, Option, Some, None}
 
@@ -25,12 +25,14 @@ keeps_status byte = is_data byte || is_real_time byte
 -- the status in force behind these bytes, the latest first
 abbrev pub status_behind : List ℕ → Option ℕ
 status_behind [] = None
-status_behind (byte ∷ before) = if keeps_status byte then status_behind before else if is_channel_status byte then Some byte else None
+status_behind (byte ∷ before) = if keeps_status byte then status_behind before else
+    if is_channel_status byte then Some byte else None
 
 -- the data bytes since the last status byte, real-time bytes left out; the latest first
 abbrev pub data_behind : List ℕ → List ℕ
 data_behind [] = []
-data_behind (byte ∷ before) = if is_data byte then byte ∷ data_behind before else if is_real_time byte then data_behind before else []
+data_behind (byte ∷ before) = if is_data byte then byte ∷ data_behind before else
+    if is_real_time byte then data_behind before else []
 
 -- how many data bytes form a group under a status
 abbrev pub group_length : ℕ → ℕ

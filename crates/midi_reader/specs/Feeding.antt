@@ -21,7 +21,12 @@ first_byte (Some status) bytes = if are_whole_groups status bytes then None else
 
 -- what bytes leave, the latest first
 abbrev pub kept_behind : List ℕ → Kept
-kept_behind bytes = record { status = status_behind bytes; first = first_byte (status_behind bytes) (data_behind bytes) }
+kept_behind bytes =
+    record {
+      status = status_behind bytes;
+      first =
+          first_byte (status_behind bytes) (data_behind bytes);
+    }
 
 -- a reader has been fed exactly these bytes, in order, as far as it can tell
 abbrev pub HasBeenFed : Kept → List ℕ → Type 0

@@ -3,8 +3,8 @@
 ghost use Rattle.std.specs.Prelude.{◌≡◌, ◌≤◌, ◌<◌, ◌/◌, ◌%◌};
 ghost use Rattle.midi_reader.specs.Events.{IsEvent, event_on, note_on};
 
-/// What a group of MIDI bytes says (MIDI 1.0, channel voice messages), or a real-time byte. The first field is the channel,
-/// 0 to 15, but for `Real`. Notes, numbers and amounts are 0 to 127.
+/// What a group of MIDI bytes says (MIDI 1.0, channel voice messages), or a real-time byte. The
+/// first field is the channel, 0 to 15, but for `Real`. Notes, numbers and amounts are 0 to 127.
 #[derive(Clone, Copy, Debug, PartialEq, Eq)]
 pub enum MidiEvent {
     /// Channel and note.

@@ -38,7 +38,8 @@ impl MidiReader {
     /// Takes the next byte, and gives the event that is whole with it.
     pub fn feed(&mut self, byte: u8) -> Option<MidiEvent>
         ensures value { (fed : List ℕ) → HasBeenFed self.old fed → result ≡ event_at fed byte }
-        ensures fed { (fed : List ℕ) → HasBeenFed self.old fed → HasBeenFed self.new (fed ++ byte ∷ []) }
+        ensures fed { (fed : List ℕ) → HasBeenFed self.old fed →
+            HasBeenFed self.new (fed ++ byte ∷ []) }
         ensures within { IfSome result IsEvent }
     {
         match byte {
@@ -62,7 +63,8 @@ impl MidiReader {
     fn feed_data(&mut self, byte: u8) -> Option<MidiEvent>
         requires { byte < 128 }
         ensures value { (fed : List ℕ) → HasBeenFed self.old fed → result ≡ event_at fed byte }
-        ensures fed { (fed : List ℕ) → HasBeenFed self.old fed → HasBeenFed self.new (fed ++ byte ∷ []) }
+        ensures fed { (fed : List ℕ) → HasBeenFed self.old fed →
+            HasBeenFed self.new (fed ++ byte ∷ []) }
         ensures within { IfSome result IsEvent }
     {
         let status = self.status?;

@@ -1,5 +1,5 @@
--- A sum of scaled frames may be greater than a frame. So many frames more make it greater by at most as many times the
--- greatest sample.
+-- A sum of scaled frames may be greater than a frame. So many frames more make it greater by at
+-- most as many times the greatest sample.
 -- "Gains and the mix" in docs/rules.md.
 use Rattle.std.specs.Prelude.{◌≤◌, ℕ, ◌*◌, List, unsigned_abs}
 use Rattle.std.specs.List.{AllByRecursion}

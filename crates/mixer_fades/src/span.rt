@@ -33,7 +33,8 @@ fn add_scaled(sum: i64, sample: i32, level: u16) -> i64
     requires sample { IsSample sample }
     requires level { level ≤ 1000 }
     ensures value { result ≡ sum +ℤ scaled sample level }
-    ensures within { (bound : ℕ) → unsigned_abs sum ≤ bound → unsigned_abs result ≤ bound + 8388608 }
+    ensures within { (bound : ℕ) → unsigned_abs sum ≤ bound →
+        unsigned_abs result ≤ bound + 8388608 }
 {
     sum + scale(sample, level)
 }

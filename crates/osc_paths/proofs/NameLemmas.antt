@@ -58,25 +58,38 @@ some_is : {X : Type 0} (x y : X) → there x ≡ there y → x ≡ y
 some_is x y same = cc
 
 -- what a search found has the name
-named : {X : Type 0} (name : X → List ℕ) (bytes : List ℕ) (found : Option X) (x : X) → found ≡ Some x → IfSome found (λ y. bytes ≡ name y) → bytes ≡ name x
+named : {X : Type 0} (name : X → List ℕ) (bytes : List ℕ) (found : Option X) (x : X) →
+    found ≡ Some x → IfSome found (λ y. bytes ≡ name y) → bytes ≡ name x
 named name bytes None x same has = absurd cc
 named name bytes (Some y) x same has = has ∙ ap name (some_is y x same)
 
-pub verb_is_named : (bytes : List ℕ) (verb : Verb) → verb_in bytes ≡ Some verb → bytes ≡ verb_name verb
-verb_is_named bytes verb same = named verb_name bytes (verb_in bytes) verb same (find_has_name verb_name bytes verbs)
+pub verb_is_named : (bytes : List ℕ) (verb : Verb) → verb_in bytes ≡ Some verb →
+    bytes ≡ verb_name verb
+verb_is_named bytes verb same =
+    named verb_name bytes (verb_in bytes) verb same (find_has_name verb_name bytes verbs)
 
-pub control_is_named : (bytes : List ℕ) (control : Control) → control_in bytes ≡ Some control → bytes ≡ control_name control
-control_is_named bytes control same = named control_name bytes (control_in bytes) control same (find_has_name control_name bytes controls)
+pub control_is_named : (bytes : List ℕ) (control : Control) → control_in bytes ≡ Some control →
+    bytes ≡ control_name control
+control_is_named bytes control same = named control_name bytes (control_in bytes) control same
+    (find_has_name control_name bytes controls)
 
 -- nothing is found where nothing has the name
-none_there : {X : Type 0} (name : X → List ℕ) (bytes : List ℕ) (found : Option X) → IfSome found (λ y. bytes ≡ name y) → ((x : X) → bytes ≢ name x) → None ≡ found
+none_there : {X : Type 0} (name : X → List ℕ) (bytes : List ℕ) (found : Option X) →
+    IfSome found (λ y. bytes ≡ name y) → ((x : X) → bytes ≢ name x) → None ≡ found
 none_there name bytes None has none = refl
 none_there name bytes (Some x) has none = absurd (none x has)
 
-pub verb_found : (bytes : List ℕ) (read : Option Verb) → IfSome read (λ verb. bytes ≡ verb_name verb) → IfNone read ((verb : Verb) → bytes ≢ verb_name verb) → read ≡ verb_in bytes
+pub verb_found : (bytes : List ℕ) (read : Option Verb) →
+    IfSome read (λ verb. bytes ≡ verb_name verb) →
+    IfNone read ((verb : Verb) → bytes ≢ verb_name verb) → read ≡ verb_in bytes
 verb_found bytes (Some verb) found only = sym (ap verb_in found ∙ verb_has_its_name verb)
-verb_found bytes None found only = none_there verb_name bytes (verb_in bytes) (find_has_name verb_name bytes verbs) only
+verb_found bytes None found only =
+    none_there verb_name bytes (verb_in bytes) (find_has_name verb_name bytes verbs) only
 
-pub control_found : (bytes : List ℕ) (read : Option Control) → IfSome read (λ control. bytes ≡ control_name control) → IfNone read ((control : Control) → bytes ≢ control_name control) → read ≡ control_in bytes
-control_found bytes (Some control) found only = sym (ap control_in found ∙ control_has_its_name control)
-control_found bytes None found only = none_there control_name bytes (control_in bytes) (find_has_name control_name bytes controls) only
+pub control_found : (bytes : List ℕ) (read : Option Control) →
+    IfSome read (λ control. bytes ≡ control_name control) →
+    IfNone read ((control : Control) → bytes ≢ control_name control) → read ≡ control_in bytes
+control_found bytes (Some control) found only =
+    sym (ap control_in found ∙ control_has_its_name control)
+control_found bytes None found only = none_there control_name bytes (control_in bytes)
+    (find_has_name control_name bytes controls) only

@@ -1,6 +1,7 @@
 -- What a message is answered: what it asks for, or the first of the faults in their order.
--- 1 the path isn't known; 2 the arguments have other types; 3 the verb isn't known; 4 the control isn't one of this path;
--- 5 the value is out of range; 6 the return address or path is bad; 7 the name is bad.
+-- 1 the path isn't known; 2 the arguments have other types; 3 the verb isn't known; 4 the control
+-- isn't one of this path; 5 the value is out of range; 6 the return address or path is bad; 7 the
+-- name is bad.
 -- "OSC paths" in docs/formats.md.
 use Rattle.std.specs.Prelude.{ℕ, ℤ, Bool, true, false, ◌&&◌, ◌||◌, not, if◌then◌else◌, List, [], ◌∷◌, Option, Some, None, Result, Ok, Err, find}
 use Rattle.sl_base.specs.Names.{is_name}
@@ -36,7 +37,8 @@ fault_number BadName = 7
 
 -- one step behind another, where that had no fault
 infixl 10 ◌>>=◌
-abbrev pub ◌>>=◌ : {A B : Type 0} → Result A PathFault → (A → Result B PathFault) → Result B PathFault
+abbrev pub ◌>>=◌ : {A B : Type 0} → Result A PathFault → (A → Result B PathFault) →
+    Result B PathFault
 (Ok x) >>= next = next x
 (Err fault) >>= next = Err fault
 
@@ -71,7 +73,8 @@ verb_answer make (Text name ∷ []) = do
 verb_answer make _ = Err BadArguments
 
 abbrev pub set_to : (Control → ℤ → Command) → ℕ → Control → ℤ → Result Request PathFault
-set_to make loops control value = if is_in_range control value loops then Ok (Play (make control value) None) else Err OutOfRange
+set_to make loops control value = if is_in_range control value loops then
+    Ok (Play (make control value) None) else Err OutOfRange
 
 unfoldable pub set_answer : Bool → (Control → ℤ → Command) → ℕ → List Arg → Result Request PathFault
 set_answer of_loop make loops (Text name ∷ Int value ∷ []) = do
@@ -124,4 +127,5 @@ answer_on paths.Quit loops from args = quit_answer args
 
 -- what a message from somewhere is answered, where there are so many loops
 abbrev pub answered : ℕ → Addr → Message → Result Request PathFault
-answered loops from message = need UnknownPath (path_in loops message.address) >>= λ path. answer_on path loops from message.args
+answered loops from message = need UnknownPath (path_in loops message.address) >>= λ path.
+    answer_on path loops from message.args

@@ -1,5 +1,5 @@
--- A verb is given by a press that goes down, one that goes up, or a hit. A control is set and read of loops, or of the
--- looper where no loops are named.
+-- A verb is given by a press that goes down, one that goes up, or a hit. A control is set and read
+-- of loops, or of the looper where no loops are named.
 -- "OSC paths" in docs/formats.md.
 use Rattle.std.specs.Prelude.{ℤ, Option, Some, None}
 use Rattle.sl_commands.specs.declared.command.Command.{Command}

@@ -96,7 +96,8 @@ path_behind bytes = do
   loop_path target parts.1
 
 abbrev pub any_path : List ℕ → Option Path
-any_path address = if bytes_eq (codes "/sl/") (take 4 address) then path_behind (drop 4 address) else looper_path address
+any_path address = if bytes_eq (codes "/sl/") (take 4 address) then
+    path_behind (drop 4 address) else looper_path address
 
 -- the path that an address names, for so many loops
 abbrev pub path_in : ℕ → List ℕ → Option Path

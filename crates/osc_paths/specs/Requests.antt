@@ -1,4 +1,5 @@
--- What a message asks for: a command to be played, with where its reply goes, or an answer to a ping.
+-- What a message asks for: a command to be played, with where its reply goes, or an answer to a
+-- ping.
 -- "OSC paths" in docs/formats.md.
 use Rattle.std.specs.Prelude.{◌≡◌, ℕ, ℤ, Bool, true, false, List, [], ◌∷◌, Some, None, IsTrue}
 use Rattle.sl_base.specs.Names.{is_name}
@@ -28,7 +29,8 @@ pub record AsksVerb (make : Verb → Command) (args : List Arg) (request : Reque
   pub asks : request ≡ Play (make verb) None
 
 -- a control to be set, of a loop or of the looper
-pub record AsksSet (of_loop : Bool) (make : Control → ℤ → Command) (loops : ℕ) (args : List Arg) (request : Request) : Type 0 where
+pub record AsksSet (of_loop : Bool) (make : Control → ℤ → Command) (loops : ℕ) (args : List Arg)
+    (request : Request) : Type 0 where
   pub control : Control
   pub value : ℤ
   pub kind : is_of_loop control ≡ of_loop
@@ -37,7 +39,8 @@ pub record AsksSet (of_loop : Bool) (make : Control → ℤ → Command) (loops 
   pub asks : request ≡ Play (make control value) None
 
 -- a control to be read, of a loop or of the looper
-pub record AsksGet (of_loop : Bool) (make : Control → Command) (from : Addr) (args : List Arg) (request : Request) : Type 0 where
+pub record AsksGet (of_loop : Bool) (make : Control → Command) (from : Addr) (args : List Arg)
+    (request : Request) : Type 0 where
   pub control : Control
   pub url : List ℕ
   pub to : ReturnTo
@@ -47,7 +50,8 @@ pub record AsksGet (of_loop : Bool) (make : Control → Command) (from : Addr) (
   pub asks : request ≡ Play (make control) (Some to)
 
 -- a loop to be saved; its format and its order of bytes may be anything
-pub record AsksSave (make : List ℕ → Command) (from : Addr) (args : List Arg) (request : Request) : Type 0 where
+pub record AsksSave (make : List ℕ → Command) (from : Addr) (args : List Arg)
+    (request : Request) : Type 0 where
   pub name : List ℕ
   pub format : List ℕ
   pub endian : List ℕ
@@ -86,9 +90,12 @@ abbrev pub Asks : Path → ℕ → Addr → List Arg → Request → Type 0
 Asks (paths.Down target) loops from args request = AsksVerb (commands.Down target) args request
 Asks (paths.Up target) loops from args request = AsksVerb (commands.Up target) args request
 Asks (paths.Hit target) loops from args request = AsksVerb (commands.Hit target) args request
-Asks (paths.Set target) loops from args request = AsksSet true (commands.Set target) loops args request
-Asks (paths.Get target) loops from args request = AsksGet true (commands.Get target) from args request
-Asks (paths.SaveLoop target) loops from args request = AsksSave (commands.SaveLoop target) from args request
+Asks (paths.Set target) loops from args request =
+    AsksSet true (commands.Set target) loops args request
+Asks (paths.Get target) loops from args request =
+    AsksGet true (commands.Get target) from args request
+Asks (paths.SaveLoop target) loops from args request =
+    AsksSave (commands.SaveLoop target) from args request
 Asks paths.SetGlobal loops from args request = AsksSet false commands.SetGlobal loops args request
 Asks paths.GetGlobal loops from args request = AsksGet false commands.GetGlobal from args request
 Asks paths.SaveSession loops from args request = AsksSession from args request
@@ -96,7 +103,8 @@ Asks paths.Ping loops from args request = AsksPing from args request
 Asks paths.Quit loops from args request = AsksQuit args request
 
 -- what a message from somewhere asks for, where there are so many loops
-pub record IsRequest (loops : ℕ) (from : Addr) (message : Message) (request : Request) : Type 0 where
+pub record IsRequest (loops : ℕ) (from : Addr) (message : Message)
+    (request : Request) : Type 0 where
   pub path : Path
   pub addressed : IsPath loops path message.address
   pub says : Asks path loops from message.args request

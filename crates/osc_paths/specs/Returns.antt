@@ -1,4 +1,5 @@
--- A reply goes to a return address, on a return path. A return path begins with `/` and has 1 to 63 bytes.
+-- A reply goes to a return address, on a return path. A return path begins with `/` and has 1 to 63
+-- bytes.
 -- "OSC paths" in docs/formats.md.
 use Rattle.std.specs.Prelude.{ℕ, if◌then◌else◌, List, Option, Some, None, IsTrue}
 use Rattle.sl_base.specs.declared.addr.Addr.{Addr}
@@ -14,4 +15,5 @@ pub record IsReturn (from : Addr) (url : List ℕ) (to : ReturnTo) : Type 0 wher
 
 -- the same, read from left to right
 abbrev pub return_in : Addr → List ℕ → List ℕ → Option ReturnTo
-return_in from url path = url_in from url >>= λ addr. if is_return_path path then Some (record { addr = addr; path = path }) else None
+return_in from url path = url_in from url >>= λ addr. if is_return_path path then
+    Some (record { addr = addr; path = path }) else None

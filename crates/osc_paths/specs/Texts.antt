@@ -1,4 +1,5 @@
--- Parts of an address: what stands before the first of a byte and what behind it, and numbers in their one spelling.
+-- Parts of an address: what stands before the first of a byte and what behind it, and numbers in
+-- their one spelling.
 -- "OSC paths" in docs/formats.md.
 use Rattle.std.specs.Prelude.{ℕ, ◌==◌, nat_le, if◌then◌else◌, List, take, drop, Option, Some, None, option_map, position}
 use Rattle.std.specs.Str.Parse.{digits_value}
@@ -24,4 +25,5 @@ number_in bytes = if is_numeral bytes then Some (digits_value 10 bytes) else Non
 
 -- the same, at most so great
 abbrev pub number_up_to : ℕ → List ℕ → Option ℕ
-number_up_to most bytes = number_in bytes >>= λ number. if nat_le number most then Some number else None
+number_up_to most bytes = number_in bytes >>= λ number. if nat_le number most then Some number else
+    None

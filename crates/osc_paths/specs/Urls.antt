@@ -1,6 +1,6 @@
--- A return address is empty, and is then where the packet came from; or it is `osc.udp://`, which may be missing, a host,
--- `:`, a port from 1 to 65535, and `/`, which may be missing. A host is `localhost`, which is 127.0.0.1, or four numbers
--- from 0 to 255 with dots between them.
+-- A return address is empty, and is then where the packet came from; or it is `osc.udp://`, which
+-- may be missing, a host, `:`, a port from 1 to 65535, and `/`, which may be missing. A host is
+-- `localhost`, which is 127.0.0.1, or four numbers from 0 to 255 with dots between them.
 -- "OSC paths" in docs/formats.md.
 use Rattle.std.specs.Prelude.{◌≡◌, ◌≤◌, ◌⊎◌, ℕ, ◌+◌, ◌*◌, ◌==◌, if◌then◌else◌, List, [], ◌∷◌, ◌++◌, take, drop, Option, Some, None, codes}
 use Rattle.std.specs.Str.{bytes_eq}
@@ -75,7 +75,8 @@ without_slash bytes (Some (front, [])) = front
 without_slash bytes (Some (front, more ∷ rest)) = bytes
 
 abbrev pub port_in : List ℕ → Option ℕ
-port_in bytes = number_up_to 65535 (without_slash bytes (cut_at 47 bytes)) >>= λ port. if port == 0 then None else Some port
+port_in bytes = number_up_to 65535 (without_slash bytes (cut_at 47 bytes)) >>= λ port.
+    if port == 0 then None else Some port
 
 unfoldable pub address_in : List ℕ → Option Addr
 address_in bytes = do

@@ -261,20 +261,23 @@ fn answered(message: &Message, loops: u8, from: Addr) -> Result<Request, PathFau
     answer_on(path, loops, from, message.args.as_slice())
 }
 
-/// What a message from somewhere asks for, where there are so many loops, or the first fault in their order. It takes no
-/// memory.
+/// What a message from somewhere asks for, where there are so many loops, or the first fault in
+/// their order. It takes no memory.
 pub fn command_of(message: &Message, loops: u8, from: Addr) -> Result<Request, PathFault>
     // What is given is asked for so.
     ensures found { IfOk result (IsRequest loops from message.now) }
 
     // What is asked for is given.
-    ensures only { (request : Request) → IsRequest loops from message.now request → result ≡ Ok request }
+    ensures only { (request : Request) → IsRequest loops from message.now request →
+        result ≡ Ok request }
 
     // An address that isn't in the table comes first.
-    ensures unknown { ((path : Path) → ¬ IsPath loops path message.now.address) → result ≡ Err PathFault.UnknownPath }
+    ensures unknown { ((path : Path) → ¬ IsPath loops path message.now.address) →
+        result ≡ Err PathFault.UnknownPath }
 
     // On a path of the table the arguments alone decide, and which fault it is.
-    ensures fault { (path : Path) → IsPath loops path message.now.address → result ≡ answer_on path loops from message.now.args }
+    ensures fault { (path : Path) → IsPath loops path message.now.address →
+        result ≡ answer_on path loops from message.now.args }
 {
     answered(message, loops, from)
 }

@@ -25,7 +25,8 @@ impl Model for ReturnPath {
 
     ghost view = { λ p. p.bytes.items };
 
-    ghost invariant = { λ p. IsTrue (is_return_path p.bytes.items) × IsTrue (has_no_zero p.bytes.items) };
+    ghost invariant = { λ p. IsTrue (is_return_path p.bytes.items)
+        × IsTrue (has_no_zero p.bytes.items) };
 }
 
 /// The bytes are a return path.

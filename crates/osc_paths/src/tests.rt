@@ -11,7 +11,8 @@ const FROM: Addr = Addr {
     port: 40001,
 };
 
-/// The number of the fault of a packet's first message, or 0 for a command, 8 for a ping, 9 for no message.
+/// The number of the fault of a packet's first message, or 0 for a command, 8 for a ping, 9 for no
+/// message.
 fn fault_of(rt: &HostRuntime, packet: &[u8], loops: u8) -> u8 {
     match read_packet(rt.alloc(), packet) {
         Ok(messages) => match messages.as_slice() {

@@ -84,8 +84,8 @@ pub(crate) fn url_in(bytes: &[u8], from: Addr) -> Option<Addr>
     }
 }
 
-/// The address that a url gives to a packet from somewhere: an empty one is where the packet came from. It takes no
-/// memory.
+/// The address that a url gives to a packet from somewhere: an empty one is where the packet came
+/// from. It takes no memory.
 pub fn url_of(bytes: &[u8], from: Addr) -> Option<Addr>
     ensures found { IfSome result (IsUrl from bytes.now) }
     ensures only { (addr : Addr) → IsUrl from bytes.now addr → result ≡ Some addr }

@@ -8,33 +8,44 @@ use Rattle.osc_reader.specs.Places.{◌>>=◌, Fails}
 use Rattle.osc_reader.specs.Reading.{arg_at, args_at}
 
 -- the bytes before the first that fails a test pass it
-pub all-before : (test : ℕ → Bool) (bytes : List ℕ) → list_all test (take (prefix_len test bytes) bytes) ≡ true
+pub all-before : (test : ℕ → Bool) (bytes : List ℕ) →
+    list_all test (take (prefix_len test bytes) bytes) ≡ true
 all-before test [] = refl
 all-before test (byte ∷ bytes) =
-    elim (test byte) as (λ passes. test byte ≡ passes → list_all test (take (cond passes (1 + prefix_len test bytes) 0) (byte ∷ bytes)) ≡ true) [
-      | true ↦ λ passes. let more : 1 + prefix_len test bytes ≡ suc (prefix_len test bytes) = omega arith in rw (more, passes, all-before test bytes) refl
+    elim (test byte) as (λ passes. test byte ≡ passes →
+    list_all test (take (cond passes (1 + prefix_len test bytes) 0) (byte ∷ bytes)) ≡ true) [
+      | true ↦ λ passes. let more : 1 + prefix_len test bytes ≡ suc (prefix_len test bytes) =
+          omega arith in rw (more, passes, all-before test bytes) refl
       | false ↦ λ fails. refl
     ] refl
 
 -- what was read before, and what is still read
-abbrev pub with_args : List Arg → Result (List Arg × List ℕ) PacketFault → Result (List Arg × List ℕ) PacketFault
+abbrev pub with_args : List Arg → Result (List Arg × List ℕ) PacketFault →
+    Result (List Arg × List ℕ) PacketFault
 with_args front read = read >>= λ x. Ok (front ++ x.0, x.1)
 
-regrouped : (front : List Arg) (arg : Arg) (read : Result (List Arg × List ℕ) PacketFault) → with_args front (read >>= λ x. Ok (arg ∷ x.0, x.1)) ≡ with_args (front ++ arg ∷ []) read
+regrouped : (front : List Arg) (arg : Arg) (read : Result (List Arg × List ℕ) PacketFault) →
+    with_args front (read >>= λ x. Ok (arg ∷ x.0, x.1)) ≡ with_args (front ++ arg ∷ []) read
 regrouped front arg (Ok x) = ap (λ (args : List Arg). Ok (args, x.1)) (simp append_assoc)
 regrouped front arg (Err fault) = refl
 
 -- one argument more is read
-pub args_go_on : (front : List Arg) (tags : List ℕ) (tag : ℕ) (end : ℕ) (bytes : List ℕ) (arg : Arg) (after : List ℕ) (total : Result (List Arg × List ℕ) PacketFault)
-    → arg_at tag end bytes ≡ Ok (arg, after) → with_args front (args_at (tag ∷ tags) end bytes) ≡ total → with_args (front ++ arg ∷ []) (args_at tags end after) ≡ total
+pub args_go_on : (front : List Arg) (tags : List ℕ) (tag : ℕ) (end : ℕ) (bytes : List ℕ) (arg : Arg)
+    (after : List ℕ) (total : Result (List Arg × List ℕ) PacketFault)
+    → arg_at tag end bytes ≡ Ok (arg, after) →
+    with_args front (args_at (tag ∷ tags) end bytes) ≡ total →
+    with_args (front ++ arg ∷ []) (args_at tags end after) ≡ total
 unfolding args_at
 args_go_on front tags tag end bytes arg after total read so_far =
-    let one : with_args front (args_at (tag ∷ tags) end bytes) ≡ with_args (front ++ arg ∷ []) (args_at tags end after) = rw read (regrouped front arg (args_at tags end after)) in
+    let one : with_args front (args_at (tag ∷ tags) end bytes) ≡ with_args (front ++ arg ∷ [])
+    (args_at tags end after) = rw read (regrouped front arg (args_at tags end after)) in
     sym one ∙ so_far
 
 -- a fault of an argument is that of all
-pub args_end : (fault : PacketFault) (front : List Arg) (tags : List ℕ) (tag : ℕ) (end : ℕ) (bytes : List ℕ) (total : Result (List Arg × List ℕ) PacketFault)
-    → Fails fault (arg_at tag end bytes) → with_args front (args_at (tag ∷ tags) end bytes) ≡ total → Fails fault total
+pub args_end : (fault : PacketFault) (front : List Arg) (tags : List ℕ) (tag : ℕ) (end : ℕ)
+    (bytes : List ℕ) (total : Result (List Arg × List ℕ) PacketFault)
+    → Fails fault (arg_at tag end bytes) →
+    with_args front (args_at (tag ∷ tags) end bytes) ≡ total → Fails fault total
 unfolding args_at
 args_end fault front tags tag end bytes total (inl memory) so_far = inl memory
 args_end fault front tags tag end bytes total (inr read) so_far =
@@ -42,8 +53,11 @@ args_end fault front tags tag end bytes total (inr read) so_far =
     inr (sym so_far ∙ one)
 
 -- no tag is left
-pub args_are_read : (front : List Arg) (end : ℕ) (bytes : List ℕ) (total : Result (List Arg × List ℕ) PacketFault) → with_args front (args_at [] end bytes) ≡ total → total ≡ Ok (front, bytes)
+pub args_are_read : (front : List Arg) (end : ℕ) (bytes : List ℕ)
+    (total : Result (List Arg × List ℕ) PacketFault) →
+    with_args front (args_at [] end bytes) ≡ total → total ≡ Ok (front, bytes)
 unfolding args_at
 args_are_read front end bytes total so_far =
-    let one : with_args front (args_at [] end bytes) ≡ Ok (front, bytes) = ap (λ (args : List Arg). Ok (args, bytes)) (append-nil front) in
+    let one : with_args front (args_at [] end bytes) ≡ Ok (front, bytes) =
+    ap (λ (args : List Arg). Ok (args, bytes)) (append-nil front) in
     sym so_far ∙ one

@@ -1,7 +1,8 @@
--- A message is an address that begins with '/', a string of tags behind a ',', and one argument for each tag.
--- i is a whole number of 32 bits in two's complement, s a string; f has 4 bytes and b a blob, and both are read over.
--- A bundle is its head, a time tag of 8 bytes, and elements: each a size, and a packet of that size. What it says is what
--- its elements say, in order. At most 8 bundles stand in one another.
+-- A message is an address that begins with '/', a string of tags behind a ',', and one argument for
+-- each tag. i is a whole number of 32 bits in two's complement, s a string; f has 4 bytes and b a
+-- blob, and both are read over. A bundle is its head, a time tag of 8 bytes, and elements: each a
+-- size, and a packet of that size. What it says is what its elements say, in order. At most 8
+-- bundles stand in one another.
 -- A packet is a message or a bundle, of 4 to 8192 bytes, a multiple of 4.
 -- Sizes have 4 bytes, the highest first. "OSC packets" in docs/formats.md.
 use Rattle.std.specs.Prelude.{◌≡◌, ◌≤◌, ◌<◌, ◌⊎◌, ℕ, zero, suc, ◌-◌, ◌%◌, List, [], ◌∷◌, ◌++◌, length, map, replicate, flat_map, codes}
@@ -38,7 +39,8 @@ pub record IsBlob (bytes : List ℕ) : Type 0 where
 
 -- an argument stands under its tag, i, s, f or b, and is spelled so
 abbrev pub IsArgument : Arg → ℕ → List ℕ → Type 0
-IsArgument (Int number) tag bytes = (tag ≡ 105) × (length bytes ≡ 4) × (number ≡ cast_signed w32 (from_be_bytes w32 bytes))
+IsArgument (Int number) tag bytes = (tag ≡ 105) × (length bytes ≡ 4)
+    × (number ≡ cast_signed w32 (from_be_bytes w32 bytes))
 IsArgument (TextOf text) tag bytes = (tag ≡ 115) × IsString text bytes
 IsArgument Foreign tag bytes = ((tag ≡ 102) × (length bytes ≡ 4)) ⊎ ((tag ≡ 98) × IsBlob bytes)
 
@@ -104,7 +106,8 @@ abbrev pub bundle_head : List ℕ
 bundle_head = codes "#bundle" ++ 0 ∷ []
 
 -- the bytes are a bundle that says these messages, by what its packets are
-pub record IsBundle (IsPacket : List ℕ → List Message → Type 0) (bytes : List ℕ) (messages : List Message) : Type 0 where
+pub record IsBundle (IsPacket : List ℕ → List Message → Type 0) (bytes : List ℕ)
+    (messages : List Message) : Type 0 where
   pub tag : List ℕ
   pub elements : List Element
   pub tag_size : length tag ≡ 8

@@ -1,5 +1,5 @@
--- A packet is read from left to right. The first fault counts, and stands at the offset of the field that has it.
--- Want of memory is no fault of the packet.
+-- A packet is read from left to right. The first fault counts, and stands at the offset of the
+-- field that has it. Want of memory is no fault of the packet.
 -- "OSC packets" in docs/formats.md.
 use Rattle.std.specs.Prelude.{◌≡◌, ◌⊎◌, ℕ, ◌-◌, List, length, Result, Ok, Err}
 use Rattle.osc_reader.specs.declared.fault.PacketKind.{PacketKind}
@@ -22,7 +22,8 @@ fault_at kind end left = record { kind = kind; at = end - length left }
 
 -- what is read at the front, and what is left behind it
 infixl 10 ◌>>=◌
-abbrev pub ◌>>=◌ : {A B : Type 0} → Result A PacketFault → (A → Result B PacketFault) → Result B PacketFault
+abbrev pub ◌>>=◌ : {A B : Type 0} → Result A PacketFault → (A → Result B PacketFault) →
+    Result B PacketFault
 (Ok x) >>= next = next x
 (Err fault) >>= next = Err fault
 

@@ -1,8 +1,9 @@
 -- Reading a packet from left to right, with the first fault that is met.
--- A string's own fault comes before what the string says. The tags are judged before the arguments. An element's size is
--- judged before what stands in it, and the depth before anything else of a bundle.
--- Each reading takes the offset of the end of its part and the bytes from its field on. What it gives stands beside the
--- bytes that are left.
+-- A string's own fault comes before what the string says. The tags are judged before the arguments.
+-- An element's size is judged before what stands in it, and the depth before anything else of a
+-- bundle.
+-- Each reading takes the offset of the end of its part and the bytes from its field on. What it
+-- gives stands beside the bytes that are left.
 -- "OSC packets" in docs/formats.md.
 use Rattle.std.specs.Prelude.{ℕ, zero, suc, ◌+◌, ◌-◌, ◌%◌, Bool, true, false, ◌&&◌, ◌||◌, ◌==◌, nat_lt, nat_le, if◌then◌else◌, List, [], ◌∷◌, ◌++◌, length, take, drop, replicate, Result, Ok, Err}
 use Rattle.std.specs.Str.{bytes_eq}
@@ -40,7 +41,8 @@ number_at end bytes =
 -- a text of so many bytes, and zeros behind it
 abbrev pub text_of_size : ℕ → List ℕ → ℕ → Result (List ℕ × List ℕ) PacketFault
 text_of_size end bytes size =
-    if begins_with_zeros (zeros_behind size) (drop size bytes) then Ok (take size bytes, drop (zeros_behind size) (drop size bytes))
+    if begins_with_zeros (zeros_behind size) (drop size bytes) then
+    Ok (take size bytes, drop (zeros_behind size) (drop size bytes))
     else Err (fault_at kinds.Text end bytes)
 
 -- a string: its text ends before the first zero
@@ -67,7 +69,8 @@ unfoldable pub tags_at : ℕ → List ℕ → Result (List ℕ × List ℕ) Pack
 tags_at end [] = Err (fault_at kinds.Tags end [])
 tags_at end (first ∷ rest) = do
   text ← string_at end (first ∷ rest)
-  if are_tags text.0 then Ok (drop 1 text.0, text.1) else Err (fault_at kinds.Tags end (first ∷ rest))
+  if are_tags text.0 then Ok (drop 1 text.0, text.1) else
+      Err (fault_at kinds.Tags end (first ∷ rest))
 
 -- the argument of a tag i
 unfoldable pub int_at : ℕ → List ℕ → Result (Arg × List ℕ) PacketFault
@@ -91,8 +94,10 @@ float_at end bytes = do
 -- what stands behind a blob's size; its faults stand at the size
 abbrev pub content_at : ℕ → List ℕ → ℕ → List ℕ → Result (Arg × List ℕ) PacketFault
 content_at end bytes size behind =
-    if nat_lt (length behind) (size + zeros_behind_blob size) then Err (fault_at kinds.Short end bytes)
-    else if begins_with_zeros (zeros_behind_blob size) (drop size behind) then Ok (Foreign, drop (size + zeros_behind_blob size) behind)
+    if nat_lt (length behind) (size + zeros_behind_blob size) then
+    Err (fault_at kinds.Short end bytes)
+    else if begins_with_zeros (zeros_behind_blob size) (drop size behind) then
+    Ok (Foreign, drop (size + zeros_behind_blob size) behind)
     else Err (fault_at kinds.Text end bytes)
 
 -- the argument of a tag b
@@ -123,7 +128,8 @@ message_at end bytes = do
   address ← address_at end bytes
   tags ← tags_at end address.1
   args ← args_at tags.0 end tags.1
-  if is_nothing args.1 then Ok (record { address = address.0; args = args.0 }) else Err (fault_at kinds.Extra end args.1)
+  if is_nothing args.1 then Ok (record { address = address.0; args = args.0 }) else
+      Err (fault_at kinds.Extra end args.1)
 
 -- the size of an element: a multiple of 4, and not 0
 abbrev pub is_element_size : ℕ → Bool
@@ -132,7 +138,9 @@ is_element_size size = size % 4 == 0 && nat_lt 0 size
 -- the part behind an element's size; the faults stand at the size
 abbrev pub part_of_size : ℕ → List ℕ → ℕ → List ℕ → Result (List ℕ × List ℕ) PacketFault
 part_of_size end bytes size behind =
-    if is_element_size size then (if nat_lt (length behind) size then Err (fault_at kinds.Short end bytes) else Ok (take size behind, drop size behind))
+    if is_element_size size then
+    (if nat_lt (length behind) size then Err (fault_at kinds.Short end bytes) else
+    Ok (take size behind, drop size behind))
     else Err (fault_at kinds.Size end bytes)
 
 -- a size, and the part of that size
@@ -141,8 +149,10 @@ element_at end bytes = do
   size ← number_at end bytes
   part_of_size end bytes size.0 size.1
 
--- the elements of a bundle, behind so many bytes that belong to the element before; `read` reads what stands in each
-unfoldable pub elements_behind : (ℕ → List ℕ → Result (List Message) PacketFault) → ℕ → ℕ → List ℕ → Result (List Message) PacketFault
+-- the elements of a bundle, behind so many bytes that belong to the element before; `read` reads
+-- what stands in each
+unfoldable pub elements_behind : (ℕ → List ℕ → Result (List Message) PacketFault) → ℕ → ℕ → List ℕ →
+    Result (List Message) PacketFault
 elements_behind read end passed [] = Ok []
 elements_behind read end (suc passed) (byte ∷ bytes) = elements_behind read end passed bytes
 elements_behind read end zero (byte ∷ bytes) = do
@@ -152,9 +162,11 @@ elements_behind read end zero (byte ∷ bytes) = do
   Ok (first ++ others)
 
 -- what stands behind the head of a bundle: the time tag, and then the elements
-unfoldable pub bundle_at : (ℕ → List ℕ → Result (List Message) PacketFault) → ℕ → List ℕ → Result (List Message) PacketFault
+unfoldable pub bundle_at : (ℕ → List ℕ → Result (List Message) PacketFault) → ℕ → List ℕ →
+    Result (List Message) PacketFault
 bundle_at read end bytes =
-    if nat_lt (length bytes) 8 then Err (fault_at kinds.Short end bytes) else elements_behind read end 0 (drop 8 bytes)
+    if nat_lt (length bytes) 8 then Err (fault_at kinds.Short end bytes) else
+    elements_behind read end 0 (drop 8 bytes)
 
 -- the part begins as a bundle does
 abbrev pub is_bundle : List ℕ → Bool
@@ -168,8 +180,10 @@ single_at end bytes = do
 
 -- a whole part that may have so many bundles in one another
 unfoldable pub part_at : ℕ → ℕ → List ℕ → Result (List Message) PacketFault
-part_at zero end bytes = if is_bundle bytes then Err (fault_at kinds.Depth end bytes) else single_at end bytes
-part_at (suc depth) end bytes = if is_bundle bytes then bundle_at (part_at depth) end (drop 8 bytes) else single_at end bytes
+part_at zero end bytes = if is_bundle bytes then Err (fault_at kinds.Depth end bytes) else
+    single_at end bytes
+part_at (suc depth) end bytes = if is_bundle bytes then
+    bundle_at (part_at depth) end (drop 8 bytes) else single_at end bytes
 
 -- as many bytes as a packet may have
 abbrev pub is_packet_size : ℕ → Bool

@@ -1,4 +1,5 @@
--- An OSC string is a text with no zero byte, one zero byte, and zero bytes up to the next multiple of 4.
+-- An OSC string is a text with no zero byte, one zero byte, and zero bytes up to the next multiple
+-- of 4.
 -- "OSC packets" in docs/formats.md.
 use Rattle.std.specs.Prelude.{◌≡◌, ℕ, ◌-◌, ◌%◌, ◌++◌, Bool, not, ◌==◌, List, length, replicate, IsTrue}
 use Rattle.std.specs.List.{list_all}

@@ -1,4 +1,5 @@
--- A message is written with the tags i and s alone, and has one spelling. What is written has texts with no zero byte.
+-- A message is written with the tags i and s alone, and has one spelling. What is written has texts
+-- with no zero byte.
 -- "OSC packets" in docs/formats.md.
 use Rattle.std.specs.Prelude.{ℕ, List, ◌∷◌, ◌++◌, map, flat_map, IsTrue, FitsSigned}
 use Rattle.std.specs.Int.{w32, to_be_bytes, cast_unsigned}
@@ -21,7 +22,8 @@ out_bytes (Text text) = string_of text.bytes
 
 -- the bytes of a message
 abbrev pub message_bytes : List ℕ → List OutArg → List ℕ
-message_bytes address args = string_of address ++ (string_of (44 ∷ map out_tag args) ++ flat_map out_bytes args)
+message_bytes address args =
+    string_of address ++ (string_of (44 ∷ map out_tag args) ++ flat_map out_bytes args)
 
 -- a text with no zero byte
 abbrev pub IsPlain : OutArg → Type 0

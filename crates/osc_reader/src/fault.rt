@@ -6,11 +6,13 @@ ghost use Rattle.osc_reader.specs.Places.{kind_number, fault_at};
 /// What is wrong with a packet.
 #[derive(Clone, Copy, Debug, PartialEq, Eq)]
 pub enum PacketKind {
-    /// The packet has fewer than 4 bytes, more than 8192, or no multiple of 4; or an element's size is 0 or no multiple of 4.
+    /// The packet has fewer than 4 bytes, more than 8192, or no multiple of 4; or an element's size
+    /// is 0 or no multiple of 4.
     Size,
     /// A string or a blob doesn't end in zeros, or an address doesn't begin with `/`.
     Text,
-    /// The tags are missing, don't begin with `,`, or have a letter other than `i`, `s`, `f` and `b`.
+    /// The tags are missing, don't begin with `,`, or have a letter other than `i`, `s`, `f` and
+    /// `b`.
     Tags,
     /// A field passes the end of its part.
     Short,

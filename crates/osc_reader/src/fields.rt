@@ -1,5 +1,5 @@
-//! The fields of a message. Each reader takes the offset of its part's end and the bytes from its field on, and gives
-//! what it read and the bytes that are left.
+//! The fields of a message. Each reader takes the offset of its part's end and the bytes from its
+//! field on, and gives what it read and the bytes that are left.
 
 ghost use Rattle.std.specs.Prelude.{◌≡◌, ◌≤◌, List, length, take, drop, IsTrue, IfOk, IfErr};
 ghost use Rattle.std.specs.List.{list_all, prefix_len};

@@ -11,11 +11,14 @@ ghost use Rattle.osc_reader.specs.declared.write.OutArg.{OutArg};
 
 /// What is written is a packet, which says the message that was written.
 pub fn what_is_written_is_read()
-    ensures { (address : List ℕ) (args : List OutArg) → BeginsWith 47 address → IsTrue (has_no_zero address) → AllByRecursion IsWritable args
-        → length (message_bytes address args) ≤ max_message → IsPacket (message_bytes address args) (read_message address args ∷ []) }
+    ensures { (address : List ℕ) (args : List OutArg) → BeginsWith 47 address →
+        IsTrue (has_no_zero address) → AllByRecursion IsWritable args
+        → length (message_bytes address args) ≤ max_message →
+        IsPacket (message_bytes address args) (read_message address args ∷ []) }
 {}
 
 /// Bytes say one list of messages at most.
 pub fn a_packet_has_one_reading()
-    ensures { (bytes : List ℕ) (messages others : List Message) → IsPacket bytes messages → IsPacket bytes others → messages ≡ others }
+    ensures { (bytes : List ℕ) (messages others : List Message) → IsPacket bytes messages →
+        IsPacket bytes others → messages ≡ others }
 {}

@@ -66,7 +66,8 @@ fn add_single(alloc: Global, bytes: &[u8], end: u16, out: &mut Messages) -> Resu
     out.push(message).map_err(|_| NO_MEMORY)
 }
 
-/// Adds what the elements of a bundle say. At most `depth` bundles may stand in one another in each.
+/// Adds what the elements of a bundle say. At most `depth` bundles may stand in one another in
+/// each.
 #[cycle(part)]
 fn add_elements(
     alloc: Global,
@@ -134,14 +135,15 @@ fn packet_at(alloc: Global, bytes: &[u8]) -> Result<Messages, PacketFault>
     Ok(messages)
 }
 
-/// The messages of a packet, in order. A fault is the first from left to right, with its offset; `Memory` says nothing of
-/// the packet. The source is OSC 1.0, in the profile of docs/formats.md.
+/// The messages of a packet, in order. A fault is the first from left to right, with its offset;
+/// `Memory` says nothing of the packet. The source is OSC 1.0, in the profile of docs/formats.md.
 pub fn read_packet(alloc: Global, bytes: &[u8]) -> Result<Messages, PacketFault>
     // What is given is said so.
     ensures found { IfOk result (λ messages. IsPacket bytes.now messages) }
 
     // What is said is given, unless memory ran out.
-    ensures only { (messages : List Message) → IsPacket bytes.now messages → Gives (λ given. given) result (Ok messages) }
+    ensures only { (messages : List Message) → IsPacket bytes.now messages →
+        Gives (λ given. given) result (Ok messages) }
 
     // Which fault it is, and where.
     ensures fault { Gives (λ messages. messages) result (packet_at bytes.now) }

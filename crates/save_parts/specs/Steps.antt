@@ -1,6 +1,7 @@
--- Each block of a save is a step: its head, a part of one of its lists, or its end. Which one it is can be told from the
--- lengths of the lists alone: the head comes first, then as many parts for each list as its length divided by 256,
--- rounded up, then the end. A part begins at a multiple of 256 and has the frames from there on, 256 at most.
+-- Each block of a save is a step: its head, a part of one of its lists, or its end. Which one it is
+-- can be told from the lengths of the lists alone: the head comes first, then as many parts for
+-- each list as its length divided by 256, rounded up, then the end. A part begins at a multiple of
+-- 256 and has the frames from there on, 256 at most.
 -- "Blocks of a save" in docs/rules.md.
 use Rattle.std.specs.Prelude.{ℕ, zero, suc, ◌+◌, ◌-◌, ◌*◌, ◌/◌, min, List, [], ◌∷◌, length, map, take, drop, slice_index_or, nat_lt, if◌then◌else◌}
 use Rattle.sl_base.specs.Sounds.{Sound}
@@ -26,13 +27,15 @@ block_count lengths = parts_in lengths + 2
 
 -- the part of this number of a list of this index and length
 abbrev pub part_step : ℕ → ℕ → ℕ → Step
-part_step list length part = PartStep list (part * part_length) (min part_length (length - part * part_length))
+part_step list length part =
+    PartStep list (part * part_length) (min part_length (length - part * part_length))
 
 -- the step of this number behind the head, of lists of which the first has this index
 abbrev pub step_behind : ℕ → List ℕ → ℕ → Step
 step_behind list [] part = EndStep
 step_behind list (length ∷ lengths) part =
-    if nat_lt part (part_count length) then part_step list length part else step_behind (list + 1) lengths (part - part_count length)
+    if nat_lt part (part_count length) then part_step list length part else
+    step_behind (list + 1) lengths (part - part_count length)
 
 -- the step of this number
 abbrev pub step_at : List ℕ → ℕ → Step

@@ -9,7 +9,8 @@ ghost use Rattle.save_parts.specs.Steps.{block_count, step_at, block_of};
 
 /// The block of each number is what its step says, by the lists of the save.
 pub fn each_step_is_the_block()
-    ensures { (save : ℕ) → (name : List ℕ) → (target : Target) → (settings : LooperSettings) → (lists : List (List Sound)) → (block : ℕ) →
+    ensures { (save : ℕ) → (name : List ℕ) → (target : Target) → (settings : LooperSettings) →
+        (lists : List (List Sound)) → (block : ℕ) →
         block < block_count (map length lists) →
         slice_get (blocks_of save name target settings lists) block
         ≡ Some (block_of (step_at (map length lists) block) save name target settings lists) }
@@ -17,6 +18,7 @@ pub fn each_step_is_the_block()
 
 /// There are as many blocks as steps.
 pub fn a_save_has_as_many_blocks_as_steps()
-    ensures { (save : ℕ) → (name : List ℕ) → (target : Target) → (settings : LooperSettings) → (lists : List (List Sound)) →
+    ensures { (save : ℕ) → (name : List ℕ) → (target : Target) → (settings : LooperSettings) →
+        (lists : List (List Sound)) →
         length (blocks_of save name target settings lists) ≡ block_count (map length lists) }
 {}

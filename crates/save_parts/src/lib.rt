@@ -1,10 +1,12 @@
 //! Which block of a save comes next, told from the lengths of its lists.
 //!
-//! - A save is sent as a head, the parts of its lists in order, and an end. `step_at` tells what the block of a number is: for a
-//!   part which list, from which place on, and how many frames. `block_count` tells how many blocks there are.
+//! - A save is sent as a head, the parts of its lists in order, and an end. `step_at` tells what
+//!   the block of a number is: for a part which list, from which place on, and how many frames.
+//!   `block_count` tells how many blocks there are.
 //! - Neither sees a frame: whoever sends a save reads only the frames of the part that is due.
 //!
-//! Begin with `step`; `laws` says that the steps are the blocks. The rules are "Blocks of a save" in docs/rules.md.
+//! Begin with `step`; `laws` says that the steps are the blocks. The rules are "Blocks of a save"
+//! in docs/rules.md.
 #![tactic(auto)]
 
 mod laws;

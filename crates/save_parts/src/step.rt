@@ -4,8 +4,8 @@ ghost use Rattle.std.specs.Prelude.{◌≡◌, ◌≤◌, ◌<◌, length};
 ghost use Rattle.sl_base.specs.Limits.{max_loops, max_list_frames};
 ghost use Rattle.save_parts.specs.Steps.{part_count, parts_in, block_count, part_step, step_behind, step_at};
 
-/// What a block of a save is. `list` counts the lists of the save from 0; `place` is a multiple of 256, and `count` 1 to 256
-/// frames.
+/// What a block of a save is. `list` counts the lists of the save from 0; `place` is a multiple of
+/// 256, and `count` 1 to 256 frames.
 #[derive(Clone, Copy, PartialEq, Eq)]
 pub enum Step {
     Head,
@@ -46,8 +46,8 @@ fn part_step(list: u32, length: u32, part: u32) -> Step
     }
 }
 
-/// What the block of this number is, of a save with lists of these lengths in frames. The first block has the number 0, and
-/// numbers past the last one are ends too.
+/// What the block of this number is, of a save with lists of these lengths in frames. The first
+/// block has the number 0, and numbers past the last one are ends too.
 pub fn step_at(lengths: &[u32], block: u32) -> Step
     requires { length lengths.now ≤ max_loops }
     ensures { result ≡ step_at lengths.now block }

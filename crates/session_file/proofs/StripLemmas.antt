@@ -17,14 +17,17 @@ use Rattle.session_file.specs.SessionLines.{strip_words}
 use Rattle.session_file.specs.Readings.{StripFits}
 
 -- a number above the greatest isn't one at most that
-pub not_within : (word : List ℕ) (number most : ℕ) → most < 10 ^ 19 → IsNumeralOf word number → most < number → (other : ℕ) → other ≤ most → word ≢ decimal other
+pub not_within : (word : List ℕ) (number most : ℕ) → most < 10 ^ 19 → IsNumeralOf word number →
+    most < number → (other : ℕ) → other ≤ most → word ≢ decimal other
 not_within word number most short is above other low same =
-    let one = numeral_is_one word number other is (record { within = omega arith; spelled = same }) in omega arith
+    let one = numeral_is_one word number other is
+    (record { within = omega arith; spelled = same }) in omega arith
 
 -- a cycle is at most its length
 cycle_within : (length cycle : ℕ) → IsTrue (is_cycle_of length cycle) → cycle ≤ length
 cycle_within zero cycle is = Prim.grind (arith, nat_tests)
-cycle_within (suc n) cycle is = leb-true cycle (suc n) (and_parts (leb 1 cycle) (leb cycle (suc n)) is).1
+cycle_within (suc n) cycle is =
+    leb-true cycle (suc n) (and_parts (leb 1 cycle) (leb cycle (suc n)) is).1
 
 -- the parts of a strip whose values are in their ranges
 pub record StripParts (s : StripSettings) : Type 0 where
@@ -33,23 +36,39 @@ pub record StripParts (s : StripSettings) : Type 0 where
 
 pub strip_parts : (s : StripSettings) → IsTrue (is_strip s) → StripParts s
 strip_parts s is =
-    let thresh = and_parts (nat_le s.length max_list_frames && is_cycle_of s.length s.cycle && (leb 0 s.feedback && leb s.feedback 1000) && (leb 0 s.wet && leb s.wet 1000) && (leb 0 s.round && leb s.round 1) && (leb 0 s.quantize && leb s.quantize 3)) (leb 0 s.rec_thresh && leb s.rec_thresh 8388607) is in
-    let quantize = and_parts (nat_le s.length max_list_frames && is_cycle_of s.length s.cycle && (leb 0 s.feedback && leb s.feedback 1000) && (leb 0 s.wet && leb s.wet 1000) && (leb 0 s.round && leb s.round 1)) (leb 0 s.quantize && leb s.quantize 3) thresh.0 in
-    let round = and_parts (nat_le s.length max_list_frames && is_cycle_of s.length s.cycle && (leb 0 s.feedback && leb s.feedback 1000) && (leb 0 s.wet && leb s.wet 1000)) (leb 0 s.round && leb s.round 1) quantize.0 in
-    let wet = and_parts (nat_le s.length max_list_frames && is_cycle_of s.length s.cycle && (leb 0 s.feedback && leb s.feedback 1000)) (leb 0 s.wet && leb s.wet 1000) round.0 in
-    let feedback = and_parts (nat_le s.length max_list_frames && is_cycle_of s.length s.cycle) (leb 0 s.feedback && leb s.feedback 1000) wet.0 in
-    let front = and_parts (nat_le s.length max_list_frames) (is_cycle_of s.length s.cycle) feedback.0 in
+    let thresh = and_parts
+    (nat_le s.length max_list_frames && is_cycle_of s.length s.cycle
+    && (leb 0 s.feedback && leb s.feedback 1000) && (leb 0 s.wet && leb s.wet 1000)
+    && (leb 0 s.round && leb s.round 1) && (leb 0 s.quantize && leb s.quantize 3))
+    (leb 0 s.rec_thresh && leb s.rec_thresh 8388607) is in
+    let quantize = and_parts
+    (nat_le s.length max_list_frames && is_cycle_of s.length s.cycle
+    && (leb 0 s.feedback && leb s.feedback 1000) && (leb 0 s.wet && leb s.wet 1000)
+    && (leb 0 s.round && leb s.round 1)) (leb 0 s.quantize && leb s.quantize 3) thresh.0 in
+    let round = and_parts
+    (nat_le s.length max_list_frames && is_cycle_of s.length s.cycle
+    && (leb 0 s.feedback && leb s.feedback 1000) && (leb 0 s.wet && leb s.wet 1000))
+    (leb 0 s.round && leb s.round 1) quantize.0 in
+    let wet = and_parts (nat_le s.length max_list_frames && is_cycle_of s.length s.cycle
+    && (leb 0 s.feedback && leb s.feedback 1000)) (leb 0 s.wet && leb s.wet 1000) round.0 in
+    let feedback = and_parts (nat_le s.length max_list_frames && is_cycle_of s.length s.cycle)
+    (leb 0 s.feedback && leb s.feedback 1000) wet.0 in
+    let front = and_parts (nat_le s.length max_list_frames) (is_cycle_of s.length s.cycle)
+    feedback.0 in
     let length_within : s.length ≤ max_list_frames = leb-true s.length max_list_frames front.0 in
     let cycle_low : s.cycle ≤ s.length = cycle_within s.length s.cycle front.1 in
     record {
       fits = record {
         length = length_within;
         cycle = omega arith;
-        feedback = leb-true s.feedback 1000 (and_parts (leb 0 s.feedback) (leb s.feedback 1000) feedback.1).1;
+        feedback = leb-true s.feedback 1000
+            (and_parts (leb 0 s.feedback) (leb s.feedback 1000) feedback.1).1;
         wet = leb-true s.wet 1000 (and_parts (leb 0 s.wet) (leb s.wet 1000) wet.1).1;
         round = leb-true s.round 1 (and_parts (leb 0 s.round) (leb s.round 1) round.1).1;
-        quantize = leb-true s.quantize 3 (and_parts (leb 0 s.quantize) (leb s.quantize 3) quantize.1).1;
-        rec_thresh = leb-true s.rec_thresh 8388607 (and_parts (leb 0 s.rec_thresh) (leb s.rec_thresh 8388607) thresh.1).1;
+        quantize = leb-true s.quantize 3
+            (and_parts (leb 0 s.quantize) (leb s.quantize 3) quantize.1).1;
+        rec_thresh = leb-true s.rec_thresh 8388607
+            (and_parts (leb 0 s.rec_thresh) (leb s.rec_thresh 8388607) thresh.1).1;
       };
       cycle = front.1;
     }
@@ -59,18 +78,34 @@ low : (n : ℕ) → leb 0 n ≡ true
 low n = le-leb 0 n (omega arith)
 
 -- a strip of such parts has its values in their ranges
-pub strip_from : (s : StripSettings) → StripFits s → IsTrue (is_cycle_of s.length s.cycle) → IsTrue (is_strip s)
+pub strip_from : (s : StripSettings) → StripFits s → IsTrue (is_cycle_of s.length s.cycle) →
+    IsTrue (is_strip s)
 strip_from s fits cycle =
-    let length_in : leb s.length max_list_frames ≡ true = le-leb s.length max_list_frames fits.length in
+    let length_in : leb s.length max_list_frames ≡ true =
+    le-leb s.length max_list_frames fits.length in
     let feedback : leb s.feedback 1000 ≡ true = le-leb s.feedback 1000 fits.feedback in
     let wet : leb s.wet 1000 ≡ true = le-leb s.wet 1000 fits.wet in
     let round : leb s.round 1 ≡ true = le-leb s.round 1 fits.round in
     let quantize : leb s.quantize 3 ≡ true = le-leb s.quantize 3 fits.quantize in
     let thresh : leb s.rec_thresh 8388607 ≡ true = le-leb s.rec_thresh 8388607 fits.rec_thresh in
-    rw (length_in, cycle, low s.feedback, feedback, low s.wet, wet, low s.round, round, low s.quantize, quantize, low s.rec_thresh, thresh) refl
+    rw (
+      length_in,
+      cycle,
+      low s.feedback,
+      feedback,
+      low s.wet,
+      wet,
+      low s.round,
+      round,
+      low s.quantize,
+      quantize,
+      low s.rec_thresh,
+      thresh,
+    ) refl
 
 -- each number of a strip is a word
-pub strip_words_are_words : (s : StripSettings) → StripFits s → AllByRecursion IsWord (strip_words s)
+pub strip_words_are_words : (s : StripSettings) → StripFits s →
+    AllByRecursion IsWord (strip_words s)
 strip_words_are_words s fits = (
   decimal_is_word s.length (omega (arith, fits.length)),
   (
@@ -92,24 +127,100 @@ strip_words_are_words s fits = (
 )
 
 -- numbers of one spelling are one
-pub number_is_one : (number other most : ℕ) → most < 10 ^ 19 → number ≤ most → other ≤ most → decimal number ≡ decimal other → number ≡ other
-number_is_one number other most short low low_too same = decimal_injective number other (omega arith) (omega arith) same
+pub number_is_one : (number other most : ℕ) → most < 10 ^ 19 → number ≤ most → other ≤ most →
+    decimal number ≡ decimal other → number ≡ other
+number_is_one number other most short low low_too same =
+    decimal_injective number other (omega arith) (omega arith) same
 
 -- strips of the same parts are one
 same_strip :
-    (s t : StripSettings) → s.length ≡ t.length → s.cycle ≡ t.cycle → s.feedback ≡ t.feedback → s.wet ≡ t.wet → s.round ≡ t.round → s.quantize ≡ t.quantize → s.rec_thresh ≡ t.rec_thresh → s ≡ t
+    (s t : StripSettings) → s.length ≡ t.length → s.cycle ≡ t.cycle → s.feedback ≡ t.feedback →
+    s.wet ≡ t.wet → s.round ≡ t.round → s.quantize ≡ t.quantize → s.rec_thresh ≡ t.rec_thresh →
+    s ≡ t
 same_strip s t lengths cycles feedbacks wets rounds quantizes threshes =
-    let with_length : ℕ → StripSettings = λ n. record { length = n; cycle = s.cycle; feedback = s.feedback; wet = s.wet; round = s.round; quantize = s.quantize; rec_thresh = s.rec_thresh } in
-    let with_cycle : ℕ → StripSettings = λ n. record { length = t.length; cycle = n; feedback = s.feedback; wet = s.wet; round = s.round; quantize = s.quantize; rec_thresh = s.rec_thresh } in
-    let with_feedback : ℕ → StripSettings = λ n. record { length = t.length; cycle = t.cycle; feedback = n; wet = s.wet; round = s.round; quantize = s.quantize; rec_thresh = s.rec_thresh } in
-    let with_wet : ℕ → StripSettings = λ n. record { length = t.length; cycle = t.cycle; feedback = t.feedback; wet = n; round = s.round; quantize = s.quantize; rec_thresh = s.rec_thresh } in
-    let with_round : ℕ → StripSettings = λ n. record { length = t.length; cycle = t.cycle; feedback = t.feedback; wet = t.wet; round = n; quantize = s.quantize; rec_thresh = s.rec_thresh } in
-    let with_quantize : ℕ → StripSettings = λ n. record { length = t.length; cycle = t.cycle; feedback = t.feedback; wet = t.wet; round = t.round; quantize = n; rec_thresh = s.rec_thresh } in
-    let with_thresh : ℕ → StripSettings = λ n. record { length = t.length; cycle = t.cycle; feedback = t.feedback; wet = t.wet; round = t.round; quantize = t.quantize; rec_thresh = n } in
-    ap with_length lengths ∙ ap with_cycle cycles ∙ ap with_feedback feedbacks ∙ ap with_wet wets ∙ ap with_round rounds ∙ ap with_quantize quantizes ∙ ap with_thresh threshes
+    let with_length : ℕ → StripSettings =
+    λ n. record {
+      length = n;
+      cycle = s.cycle;
+      feedback = s.feedback;
+      wet = s.wet;
+      round =
+          s.round;
+      quantize = s.quantize;
+      rec_thresh = s.rec_thresh;
+    } in
+    let with_cycle : ℕ → StripSettings =
+    λ n. record {
+      length = t.length;
+      cycle = n;
+      feedback = s.feedback;
+      wet = s.wet;
+      round =
+          s.round;
+      quantize = s.quantize;
+      rec_thresh = s.rec_thresh;
+    } in
+    let with_feedback : ℕ → StripSettings =
+    λ n. record {
+      length = t.length;
+      cycle = t.cycle;
+      feedback = n;
+      wet = s.wet;
+      round =
+          s.round;
+      quantize = s.quantize;
+      rec_thresh = s.rec_thresh;
+    } in
+    let with_wet : ℕ → StripSettings =
+    λ n. record {
+      length = t.length;
+      cycle = t.cycle;
+      feedback = t.feedback;
+      wet = n;
+      round =
+          s.round;
+      quantize = s.quantize;
+      rec_thresh = s.rec_thresh;
+    } in
+    let with_round : ℕ → StripSettings =
+    λ n. record {
+      length = t.length;
+      cycle = t.cycle;
+      feedback = t.feedback;
+      wet =
+          t.wet;
+      round = n;
+      quantize = s.quantize;
+      rec_thresh = s.rec_thresh;
+    } in
+    let with_quantize : ℕ → StripSettings =
+    λ n. record {
+      length = t.length;
+      cycle = t.cycle;
+      feedback = t.feedback;
+      wet =
+          t.wet;
+      round = t.round;
+      quantize = n;
+      rec_thresh = s.rec_thresh;
+    } in
+    let with_thresh : ℕ → StripSettings =
+    λ n. record {
+      length = t.length;
+      cycle = t.cycle;
+      feedback = t.feedback;
+      wet =
+          t.wet;
+      round = t.round;
+      quantize = t.quantize;
+      rec_thresh = n;
+    } in
+    ap with_length lengths ∙ ap with_cycle cycles ∙ ap with_feedback feedbacks ∙ ap with_wet wets
+    ∙ ap with_round rounds ∙ ap with_quantize quantizes ∙ ap with_thresh threshes
 
 -- strips of the same words are one
-pub strip_is_one : (s t : StripSettings) → StripFits s → StripFits t → strip_words s ≡ strip_words t → s ≡ t
+pub strip_is_one : (s t : StripSettings) → StripFits s → StripFits t →
+    strip_words s ≡ strip_words t → s ≡ t
 strip_is_one s t fits fits_too same =
     let length_words : decimal s.length ≡ decimal t.length = cc same in
     let cycle_words : decimal s.cycle ≡ decimal t.cycle = cc same in
@@ -119,17 +230,26 @@ strip_is_one s t fits fits_too same =
     let quantize_words : decimal s.quantize ≡ decimal t.quantize = cc same in
     let thresh_words : decimal s.rec_thresh ≡ decimal t.rec_thresh = cc same in
     same_strip s t
-    (number_is_one s.length t.length max_list_frames (omega arith) fits.length fits_too.length length_words)
-    (number_is_one s.cycle t.cycle max_list_frames (omega arith) fits.cycle fits_too.cycle cycle_words)
-    (number_is_one s.feedback t.feedback 1000 (omega arith) fits.feedback fits_too.feedback feedback_words)
+    (number_is_one s.length t.length max_list_frames (omega arith) fits.length fits_too.length
+    length_words)
+    (number_is_one s.cycle t.cycle max_list_frames (omega arith) fits.cycle fits_too.cycle
+    cycle_words)
+    (number_is_one s.feedback t.feedback 1000 (omega arith) fits.feedback fits_too.feedback
+    feedback_words)
     (number_is_one s.wet t.wet 1000 (omega arith) fits.wet fits_too.wet wet_words)
     (number_is_one s.round t.round 1 (omega arith) fits.round fits_too.round round_words)
-    (number_is_one s.quantize t.quantize 3 (omega arith) fits.quantize fits_too.quantize quantize_words)
-    (number_is_one s.rec_thresh t.rec_thresh 8388607 (omega arith) fits.rec_thresh fits_too.rec_thresh thresh_words)
+    (number_is_one s.quantize t.quantize 3 (omega arith) fits.quantize fits_too.quantize
+    quantize_words)
+    (number_is_one s.rec_thresh t.rec_thresh 8388607 (omega arith) fits.rec_thresh
+    fits_too.rec_thresh thresh_words)
 
--- where the cycle isn't one of the length, the words are of no strip whose values are in their ranges
-pub no_strip : (words : List (List ℕ)) (s : StripSettings) → words ≡ strip_words s → StripFits s → is_cycle_of s.length s.cycle ≡ false → (t : StripSettings) → IsTrue (is_strip t) → words ≢ strip_words t
+-- where the cycle isn't one of the length, the words are of no strip whose values are in their
+-- ranges
+pub no_strip : (words : List (List ℕ)) (s : StripSettings) → words ≡ strip_words s → StripFits s →
+    is_cycle_of s.length s.cycle ≡ false → (t : StripSettings) → IsTrue (is_strip t) →
+    words ≢ strip_words t
 no_strip words s spelled fits bad t is spelled_too =
     let parts = strip_parts t is in
     let one = strip_is_one s t fits parts.fits (sym spelled ∙ spelled_too) in
-    false≢true (sym bad ∙ ap (λ (u : StripSettings). is_cycle_of u.length u.cycle) one ∙ parts.cycle)
+    false≢true (sym bad ∙ ap (λ (u : StripSettings). is_cycle_of u.length u.cycle) one
+    ∙ parts.cycle)

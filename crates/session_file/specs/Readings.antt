@@ -1,4 +1,5 @@
--- While a session is read, the lines so far were read off the front of the bytes, and the rest is left.
+-- While a session is read, the lines so far were read off the front of the bytes, and the rest is
+-- left.
 -- "Sessions" in docs/formats.md.
 use Rattle.std.specs.Prelude.{ℕ, ◌≤◌, List, ⊤}
 use Rattle.sl_base.specs.Limits.{max_list_frames, max_rate, max_loops}
@@ -41,7 +42,8 @@ pub record StripFits (s : StripSettings) : Type 0 where
   pub quantize : s.quantize ≤ 3
   pub rec_thresh : s.rec_thresh ≤ 8388607
 
--- the greatest number that a setting may have, where there are so many loops; of `sync_source` it isn't asked
+-- the greatest number that a setting may have, where there are so many loops; of `sync_source` it
+-- isn't asked
 abbrev pub most_value : ℕ → Setting → ℕ
 most_value loops Rate = max_rate
 most_value loops Loops = max_loops

@@ -1,6 +1,6 @@
--- The first eight lines of a session behind its header are settings of the looper: a word and a number. Then each loop has
--- a line: its index, the length of its list, its cycle, and the values of its controls that can be set.
--- A line has the form that is due by the shapes of its words.
+-- The first eight lines of a session behind its header are settings of the looper: a word and a
+-- number. Then each loop has a line: its index, the length of its list, its cycle, and the values
+-- of its controls that can be set. A line has the form that is due by the shapes of its words.
 -- "Sessions" in docs/formats.md.
 use Rattle.std.specs.Prelude.{ℕ, suc, ℤ, pos, negsuc, ◌≡◌, ◌<◌, ◌^◌, ◌+◌, ◌==◌, Bool, true, false, ◌&&◌, IsTrue, unsigned_abs, List, [], ◌∷◌, ◌++◌, codes, length, Option, Some, None, ⊤}
 use Rattle.std.specs.Str.{bytes_eq}
@@ -74,14 +74,16 @@ line_words (Loop index s) = loop_words index s
 abbrev pub line_text : Line → List ℕ
 line_text l = line_of (line_words l)
 
--- all numbers of a line but a loop's index are in their ranges, where there are so many loops, and each has a spelling
+-- all numbers of a line but a loop's index are in their ranges, where there are so many loops, and
+-- each has a spelling
 abbrev pub HasValues : ℕ → Line → Type 0
 HasValues loops (Value setting z) = (unsigned_abs z < 10 ^ 19) × IsTrue (is_value loops setting z)
 HasValues loops (Loop index s) = (index < 10 ^ 19) × IsTrue (is_strip s)
 
 -- the settings that come before the loops, in order
 abbrev pub first_settings : List Setting
-first_settings = Rate ∷ Loops ∷ GlobalDry ∷ GlobalSyncSource ∷ GlobalSelectedLoopNum ∷ GlobalFadeStep ∷ GlobalLongPress ∷ GlobalPulse ∷ []
+first_settings = Rate ∷ Loops ∷ GlobalDry ∷ GlobalSyncSource ∷ GlobalSelectedLoopNum
+    ∷ GlobalFadeStep ∷ GlobalLongPress ∷ GlobalPulse ∷ []
 
 -- the first of the settings behind so many lines
 abbrev pub setting_behind : List Setting → List Line → Option Setting
@@ -147,4 +149,5 @@ global_lines g =
 
 -- the lines of settings
 abbrev pub lines_of : LooperSettings → List Line
-lines_of s = Value Rate (pos s.rate) ∷ Value Loops (pos (length s.strips)) ∷ (global_lines s.globals ++ loop_lines 0 s.strips)
+lines_of s = Value Rate (pos s.rate) ∷ Value Loops (pos (length s.strips))
+    ∷ (global_lines s.globals ++ loop_lines 0 s.strips)

@@ -1,7 +1,8 @@
--- A session is `looper session 1`, a line for each setting, a line for each loop in the order of their indices, and `end`.
--- Behind the last loop `end` is due, and another line there is one too many. Where `end` stands earlier it has no form, as
--- each line that isn't of the form due at its place. A line of that form with a number outside its range, a loop's index
--- aside, is the line of no value. A loop's line of another index is out of order.
+-- A session is `looper session 1`, a line for each setting, a line for each loop in the order of
+-- their indices, and `end`. Behind the last loop `end` is due, and another line there is one too
+-- many. Where `end` stands earlier it has no form, as each line that isn't of the form due at its
+-- place. A line of that form with a number outside its range, a loop's index aside, is the line of
+-- no value. A loop's line of another index is out of order.
 -- "Sessions" in docs/formats.md.
 use Rattle.std.specs.Prelude.{ℕ, ◌≡◌, ◌≢◌, ◌+◌, ◌≤◌, ◌<◌, IsTrue, IsFalse, Option, List, length, codes}
 use Rattle.sl_commands.specs.declared.fault.TextKind.{TextKind}
@@ -33,7 +34,8 @@ pub record MayStand (before : List Line) (line : Line) : Type 0 where
 -- the line hasn't the form that is due, or it has and is the line of no values in their ranges
 abbrev pub HasNoValues : Option Setting → ℕ → List ℕ → TextKind → Type 0
 HasNoValues due loops line Form = IsFalse (is_form due (words_in line))
-HasNoValues due loops line Value = IsTrue (is_form due (words_in line)) × ((l : Line) → IsDue due l → HasValues loops l → line ≢ line_text l)
+HasNoValues due loops line Value = IsTrue (is_form due (words_in line))
+    × ((l : Line) → IsDue due l → HasValues loops l → line ≢ line_text l)
 HasNoValues due loops line _ = ⊥
 
 -- what is wrong with a line behind these
@@ -41,9 +43,12 @@ pub data IsWrong (before : List Line) (line : List ℕ) (kind : TextKind) : Type
   -- `end` is due
   one_too_many : lines_due before ≤ length before → kind ≡ TooMany → IsWrong before line kind
   -- it has not the form due, or is the line of no values
-  no_values : length before < lines_due before → HasNoValues (due_behind before) (loops_said before) line kind → IsWrong before line kind
+  no_values : length before < lines_due before →
+      HasNoValues (due_behind before) (loops_said before) line kind → IsWrong before line kind
   -- it is a loop's line with another index
-  no_place : length before < lines_due before → (l : Line) → IsDue (due_behind before) l → HasValues (loops_said before) l → line ≡ line_text l → IsFalse (is_in_place (length before) l) → kind ≡ Order → IsWrong before line kind
+  no_place : length before < lines_due before → (l : Line) → IsDue (due_behind before) l →
+      HasValues (loops_said before) l → line ≡ line_text l →
+      IsFalse (is_in_place (length before) l) → kind ≡ Order → IsWrong before line kind
 
 -- sessions as a form of text: `end` is due behind the last loop
 abbrev pub session_form : TextForm Line

@@ -1,16 +1,18 @@
-//! The session file: what a looper and its loops are set to, as text, and the WAV files of the loops' lists.
+//! The session file: what a looper and its loops are set to, as text, and the WAV files of the
+//! loops' lists.
 //!
-//! - `read_session` gives the settings that bytes spell, or the first fault of the bytes, with its line and kind, and
-//!   nothing else for those bytes. It takes no memory.
+//! - `read_session` gives the settings that bytes spell, or the first fault of the bytes, with its
+//!   line and kind, and nothing else for those bytes. It takes no memory.
 //! - `session_text` gives the one spelling of settings. It may want memory, and says so.
-//! - What is written is read back as the same settings, and what was read is written as the same bytes.
-//! - An early `end` has no form, a loop's line with another index is out of order, and a line where `end` is due is one
-//!   too many. A loop's index is judged behind all other numbers of its line.
-//! - `load` reads the text and then each loop's file, which `part_name` names, and tells the first bad one. It writes
-//!   nothing.
+//! - What is written is read back as the same settings, and what was read is written as the same
+//!   bytes.
+//! - An early `end` has no form, a loop's line with another index is out of order, and a line where
+//!   `end` is due is one too many. A loop's index is judged behind all other numbers of its line.
+//! - `load` reads the text and then each loop's file, which `part_name` names, and tells the first
+//!   bad one. It writes nothing.
 //!
-//! Begin with `session`, then `reading` and `line`; `write` spells, `loading` loads, `laws` has what holds of the
-//! definitions.
+//! Begin with `session`, then `reading` and `line`; `write` spells, `loading` loads, `laws` has
+//! what holds of the definitions.
 //! The rules are "Sessions" in docs/formats.md and "Faults of texts" in docs/rules.md.
 #![tactic(auto)]
 

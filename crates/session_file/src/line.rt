@@ -130,8 +130,10 @@ fn is_form(due: Option<Setting>, words: &[&[u8]]) -> bool
 
 /// The words behind the first, where that is this one.
 fn behind<'a, 'b>(words: &'a [&'b [u8]], first: &[u8]) -> Option<&'a [&'b [u8]]>
-    ensures found { IfSome result (λ rest. map (λ w. w.now) words.now ≡ first.now ∷ map (λ w. w.now) rest.now) }
-    ensures only { IfNone result ((rest : List (List ℕ)) → map (λ w. w.now) words.now ≢ first.now ∷ rest) }
+    ensures found { IfSome result
+        (λ rest. map (λ w. w.now) words.now ≡ first.now ∷ map (λ w. w.now) rest.now) }
+    ensures only { IfNone result ((rest : List (List ℕ)) →
+        map (λ w. w.now) words.now ≢ first.now ∷ rest) }
 {
     let (word, rest) = words.split_first()?;
     if *word == first { Some(rest) } else { None }
@@ -152,8 +154,12 @@ fn number_of(word: &[u8], most: u32) -> Option<u32>
 
 /// The last three numbers of a loop that words spell, each in its range.
 fn switches_of(words: &[&[u8]]) -> Option<(u8, u8, u32)>
-    ensures found { IfSome result (λ n. (map (λ w. w.now) words.now ≡ decimal n.0 ∷ decimal n.1 ∷ decimal n.2 ∷ []) × (n.0 ≤ 1) × (n.1 ≤ 3) × (n.2 ≤ 8388607)) }
-    ensures only { IfNone result ((s : StripSettings) → StripFits s → map (λ w. w.now) words.now ≢ decimal s.round ∷ decimal s.quantize ∷ decimal s.rec_thresh ∷ []) }
+    ensures found { IfSome result
+        (λ n. (map (λ w. w.now) words.now ≡ decimal n.0 ∷ decimal n.1 ∷ decimal n.2 ∷ [])
+        × (n.0 ≤ 1) × (n.1 ≤ 3) × (n.2 ≤ 8388607)) }
+    ensures only { IfNone result ((s : StripSettings) → StripFits s →
+        map (λ w. w.now) words.now ≢ decimal s.round ∷ decimal s.quantize ∷ decimal s.rec_thresh
+        ∷ []) }
 {
     match words {
         [round, quantize, rec_thresh] => {
@@ -169,7 +175,8 @@ fn switches_of(words: &[&[u8]]) -> Option<(u8, u8, u32)>
 /// The numbers of a loop that words spell, each in its range.
 fn numbers_of(words: &[&[u8]]) -> Option<StripSettings>
     ensures found { IfSome result (λ s. (map (λ w. w.now) words.now ≡ strip_words s) × StripFits s) }
-    ensures only { IfNone result ((s : StripSettings) → StripFits s → map (λ w. w.now) words.now ≢ strip_words s) }
+    ensures only { IfNone result ((s : StripSettings) → StripFits s →
+        map (λ w. w.now) words.now ≢ strip_words s) }
 {
     match words {
         [length, cycle, feedback, wet, rest @ ..] => {
@@ -205,8 +212,10 @@ fn is_cycle_of(length: u32, cycle: u32) -> bool
 
 /// The settings of a loop that words spell, in their ranges.
 fn strip_of(words: &[&[u8]]) -> Option<StripSettings>
-    ensures found { IfSome result (λ s. (map (λ w. w.now) words.now ≡ strip_words s) × IsTrue (is_strip s)) }
-    ensures only { IfNone result ((s : StripSettings) → IsTrue (is_strip s) → map (λ w. w.now) words.now ≢ strip_words s) }
+    ensures found { IfSome result (λ s. (map (λ w. w.now) words.now ≡ strip_words s)
+        × IsTrue (is_strip s)) }
+    ensures only { IfNone result ((s : StripSettings) → IsTrue (is_strip s) →
+        map (λ w. w.now) words.now ≢ strip_words s) }
 {
     let strip = numbers_of(words)?;
     if is_cycle_of(strip.length, strip.cycle) {
@@ -218,8 +227,10 @@ fn strip_of(words: &[&[u8]]) -> Option<StripSettings>
 
 /// The index and the settings of a loop that words spell, the settings in their ranges.
 fn loop_of(words: &[&[u8]]) -> Option<(u64, StripSettings)>
-    ensures found { IfSome result (λ l. (map (λ w. w.now) words.now ≡ loop_words l.0 l.1) × (l.0 < 10 ^ 19) × IsTrue (is_strip l.1)) }
-    ensures only { IfNone result ((index : ℕ) (s : StripSettings) → index < 10 ^ 19 → IsTrue (is_strip s) → map (λ w. w.now) words.now ≢ loop_words index s) }
+    ensures found { IfSome result (λ l. (map (λ w. w.now) words.now ≡ loop_words l.0 l.1)
+        × (l.0 < 10 ^ 19) × IsTrue (is_strip l.1)) }
+    ensures only { IfNone result ((index : ℕ) (s : StripSettings) → index < 10 ^ 19 →
+        IsTrue (is_strip s) → map (λ w. w.now) words.now ≢ loop_words index s) }
 {
     match behind(words, b"loop")? {
         [index, rest @ ..] => {
@@ -233,8 +244,10 @@ fn loop_of(words: &[&[u8]]) -> Option<(u64, StripSettings)>
 
 /// The number of 32 bits that the only word spells.
 fn number_alone(words: &[&[u8]]) -> Option<i32>
-    ensures found { IfSome result (λ z. (map (λ w. w.now) words.now ≡ signed_decimal z ∷ []) × (unsigned_abs z < 10 ^ 19)) }
-    ensures only { IfNone result ((z : ℤ) → negsuc 2147483647 ≤ℤ z → z ≤ℤ pos 2147483647 → map (λ w. w.now) words.now ≢ signed_decimal z ∷ []) }
+    ensures found { IfSome result (λ z. (map (λ w. w.now) words.now ≡ signed_decimal z ∷ [])
+        × (unsigned_abs z < 10 ^ 19)) }
+    ensures only { IfNone result ((z : ℤ) → negsuc 2147483647 ≤ℤ z → z ≤ℤ pos 2147483647 →
+        map (λ w. w.now) words.now ≢ signed_decimal z ∷ []) }
 {
     match words {
         [number] => read_integer(number),
@@ -244,8 +257,11 @@ fn number_alone(words: &[&[u8]]) -> Option<i32>
 
 /// The number of a setting that words spell, in its range, where there are so many loops.
 fn value_of(words: &[&[u8]], setting: Setting, loops: u8) -> Option<i32>
-    ensures found { IfSome result (λ z. (map (λ w. w.now) words.now ≡ line_words (Line.Value setting z)) × HasValues loops (Line.Value setting z)) }
-    ensures only { IfNone result ((z : ℤ) → HasValues loops (Line.Value setting z) → map (λ w. w.now) words.now ≢ line_words (Line.Value setting z)) }
+    ensures found { IfSome result
+        (λ z. (map (λ w. w.now) words.now ≡ line_words (Line.Value setting z))
+        × HasValues loops (Line.Value setting z)) }
+    ensures only { IfNone result ((z : ℤ) → HasValues loops (Line.Value setting z) →
+        map (λ w. w.now) words.now ≢ line_words (Line.Value setting z)) }
 {
     let rest = behind(words, setting.word().as_bytes())?;
     let value = number_alone(rest)?;
@@ -258,7 +274,8 @@ fn value_of(words: &[&[u8]], setting: Setting, loops: u8) -> Option<i32>
 
 /// Reads the line of a setting, where there are so many loops.
 pub fn read_value(line: &[u8], setting: Setting, loops: u8) -> Result<i32, TextKind>
-    ensures found { IfOk result (λ z. (line.now ≡ line_text (Line.Value setting z)) × HasValues loops (Line.Value setting z)) }
+    ensures found { IfOk result (λ z. (line.now ≡ line_text (Line.Value setting z))
+        × HasValues loops (Line.Value setting z)) }
     ensures wrong { IfErr result (HasNoValues (Some setting) loops line.now) }
 {
     let Some(words) = words_of(line) else {
@@ -276,7 +293,8 @@ pub fn read_value(line: &[u8], setting: Setting, loops: u8) -> Result<i32, TextK
 
 /// Reads the line of a loop: its index, whatever it is, and its settings.
 pub fn read_loop(line: &[u8]) -> Result<(u64, StripSettings), TextKind>
-    ensures found { IfOk result (λ l. (line.now ≡ line_text (Line.Loop l.0 l.1)) × (l.0 < 10 ^ 19) × IsTrue (is_strip l.1)) }
+    ensures found { IfOk result (λ l. (line.now ≡ line_text (Line.Loop l.0 l.1)) × (l.0 < 10 ^ 19)
+        × IsTrue (is_strip l.1)) }
     ensures wrong { IfErr result (HasNoValues None 0 line.now) }
 {
     let Some(words) = words_of(line) else {

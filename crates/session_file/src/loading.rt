@@ -21,8 +21,9 @@ use wav_pcm::{Wav, WavFault, read_wav};
 /// Why a session isn't loaded.
 #[derive(Drop)]
 pub enum LoadFault {
-    /// The first bad file: its name, the number of what is wrong (0 missing, a text's kind, a WAV file's fault, 8 another WAV
-    /// file than the text says) and the line in the text, 0 for a WAV file.
+    /// The first bad file: its name, the number of what is wrong (0 missing, a text's kind, a WAV
+    /// file's fault, 8 another WAV file than the text says) and the line in the text, 0 for a WAV
+    /// file.
     File(Name, u8, u32),
     /// A reading failed.
     Read,
@@ -124,7 +125,8 @@ fn read_at<P: Keeper>(
     requires few { length strips.now ≤ 16 }
     requires there { index < length strips.now }
     ensures reads { OnlyReads P.Keeper keeper.old keeper.new (is_unread result) }
-    ensures value { ReadsLoop (P.files keeper.old) (part_name session.now index) (get_or strips.now index default_strip).length result }
+    ensures value { ReadsLoop (P.files keeper.old) (part_name session.now index)
+        (get_or strips.now index default_strip).length result }
 {
     let name = part_name(session, index as u8);
     read_loop(alloc, keeper, &name, strips[index].length)
@@ -192,8 +194,9 @@ fn read_text<P: Keeper>(
     settings_in(session, &bytes)
 }
 
-/// Loads a session: its settings, and a list for each loop, as long as its settings say. Its name has at most 48 bytes. The
-/// text is read first, and then the WAV files by the index of their loops. The fault is the first by this order.
+/// Loads a session: its settings, and a list for each loop, as long as its settings say. Its name
+/// has at most 48 bytes. The text is read first, and then the WAV files by the index of their
+/// loops. The fault is the first by this order.
 #[tactic(auto, using(crate::proofs::LoadLemmas::bad_session))]
 pub fn load<P: Keeper>(
     alloc: Global,

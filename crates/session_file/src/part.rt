@@ -49,8 +49,8 @@ fn spell(session: &Name, index: u8) -> ArrayString<64>
     text
 }
 
-/// The name of the WAV file of the loop with this index: the session's name, `-`, the index and `.wav`. The session's name
-/// has at most 48 bytes. No memory is taken.
+/// The name of the WAV file of the loop with this index: the session's name, `-`, the index and
+/// `.wav`. The session's name has at most 48 bytes. No memory is taken.
 #[tactic(auto, using(crate::proofs::PartLemmas::part_is_name))]
 pub fn part_name(session: &Name, index: u8) -> Name
     requires { length session.now ≤ max_session_name }

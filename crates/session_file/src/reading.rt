@@ -117,7 +117,8 @@ impl<'a> Reading<'a> {
         requires loops { loops_said self.old.lines ≡ loops }
         requires few { length self.old.lines < 8 }
         ensures bytes { self.new.bytes ≡ self.old.bytes }
-        ensures lines { IfOk result (λ z. self.new.lines ≡ self.old.lines ++ Line.Value setting z ∷ []) }
+        ensures lines { IfOk result
+            (λ z. self.new.lines ≡ self.old.lines ++ Line.Value setting z ∷ []) }
         ensures within { IfOk result (λ z. IsTrue (is_value loops setting z)) }
         ensures fault { IfErr result (IsFirst self.old.bytes) }
     {
@@ -138,7 +139,8 @@ impl<'a> Reading<'a> {
         requires few { length self.old.lines < 8 }
         requires plain { setting_shape setting ≡ Shape.Number }
         ensures bytes { self.new.bytes ≡ self.old.bytes }
-        ensures lines { IfOk result (λ n. self.new.lines ≡ self.old.lines ++ Line.Value setting (pos n) ∷ []) }
+        ensures lines { IfOk result
+            (λ n. self.new.lines ≡ self.old.lines ++ Line.Value setting (pos n) ∷ []) }
         ensures within { IfOk result (λ n. IsTrue (is_value loops setting (pos n))) }
         ensures most { IfOk result (λ n. n ≤ most_value loops setting) }
         ensures fault { IfErr result (IsFirst self.old.bytes) }
@@ -151,7 +153,8 @@ impl<'a> Reading<'a> {
 
     /// Reads the six lines of the looper's own settings, for so many loops. `rate` was read before.
     pub fn globals(&mut self, rate: u32, loops: u8) -> Result<Globals, TextFault>
-        requires lines { self.old.lines ≡ Line.Value Setting.Rate (pos rate) ∷ Line.Value Setting.Loops (pos loops) ∷ [] }
+        requires lines { self.old.lines ≡ Line.Value Setting.Rate (pos rate)
+            ∷ Line.Value Setting.Loops (pos loops) ∷ [] }
         ensures bytes { self.new.bytes ≡ self.old.bytes }
         ensures lines { IfOk result (λ g. self.new.lines ≡ self.old.lines ++ global_lines g) }
         ensures within { IfOk result (λ g. IsTrue (are_globals loops g)) }

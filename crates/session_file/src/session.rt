@@ -28,10 +28,12 @@ fn settings_of(bytes: &[u8]) -> Result<Settings, TextFault>
     })
 }
 
-/// Reads a session: its settings, or its first fault. It takes no memory, and never answers `Memory`.
+/// Reads a session: its settings, or its first fault. It takes no memory, and never answers
+/// `Memory`.
 pub fn read_session(bytes: &[u8]) -> Result<Settings, ReadText>
     ensures found { IfOk result (λ s. IsSession bytes.now s) }
-    ensures one { IfOk result (λ s. (other : LooperSettings) → IsSession bytes.now other → other ≡ s) }
+    ensures one { IfOk result (λ s. (other : LooperSettings) → IsSession bytes.now other →
+        other ≡ s) }
     ensures fault { IfErr result (IsReason bytes.now) }
     ensures only { IfErr result (DeniesAll (λ s. IsSession bytes.now s)) }
 {

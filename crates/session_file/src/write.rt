@@ -14,15 +14,18 @@ use std::alloc::{AllocError, Global};
 
 /// Writes the lines of rate and loops.
 fn write_front(out: &mut String, rate: u32, loops: usize) -> Result<(), AllocError>
-    ensures { OnOk result (string_bytes out.new ≡ string_bytes out.old ++ lines_then line_text (Line.Value Setting.Rate (pos rate) ∷ Line.Value Setting.Loops (pos loops) ∷ []) []) }
+    ensures { OnOk result (string_bytes out.new ≡ string_bytes out.old ++ lines_then line_text
+        (Line.Value Setting.Rate (pos rate) ∷ Line.Value Setting.Loops (pos loops) ∷ []) []) }
 {
     write!(out, "rate {rate}\nloops {loops}\n")
 }
 
 /// Writes the first three lines of the looper's own values.
 fn write_mix(out: &mut String, globals: &Globals) -> Result<(), AllocError>
-    ensures { OnOk result (string_bytes out.new ≡ string_bytes out.old ++ lines_then line_text (Line.Value Setting.GlobalDry (pos globals.now.dry)
-        ∷ Line.Value Setting.GlobalSyncSource globals.now.sync_source ∷ Line.Value Setting.GlobalSelectedLoopNum (pos globals.now.selected_loop_num) ∷ []) []) }
+    ensures { OnOk result (string_bytes out.new ≡ string_bytes out.old
+        ++ lines_then line_text (Line.Value Setting.GlobalDry (pos globals.now.dry)
+        ∷ Line.Value Setting.GlobalSyncSource globals.now.sync_source
+        ∷ Line.Value Setting.GlobalSelectedLoopNum (pos globals.now.selected_loop_num) ∷ []) []) }
 {
     let dry = globals.dry;
     let sync_source = globals.sync_source;
@@ -35,8 +38,10 @@ fn write_mix(out: &mut String, globals: &Globals) -> Result<(), AllocError>
 
 /// Writes the other three.
 fn write_times(out: &mut String, globals: &Globals) -> Result<(), AllocError>
-    ensures { OnOk result (string_bytes out.new ≡ string_bytes out.old ++ lines_then line_text (Line.Value Setting.GlobalFadeStep (pos globals.now.fade_step)
-        ∷ Line.Value Setting.GlobalLongPress (pos globals.now.long_press) ∷ Line.Value Setting.GlobalPulse (pos globals.now.pulse) ∷ []) []) }
+    ensures { OnOk result (string_bytes out.new ≡ string_bytes out.old
+        ++ lines_then line_text (Line.Value Setting.GlobalFadeStep (pos globals.now.fade_step)
+        ∷ Line.Value Setting.GlobalLongPress (pos globals.now.long_press)
+        ∷ Line.Value Setting.GlobalPulse (pos globals.now.pulse) ∷ []) []) }
 {
     let fade_step = globals.fade_step;
     let long_press = globals.long_press;
@@ -49,7 +54,8 @@ fn write_times(out: &mut String, globals: &Globals) -> Result<(), AllocError>
 
 /// Writes the line of a loop, with its line feed.
 fn write_strip(out: &mut String, index: usize, strip: &StripSettings) -> Result<(), AllocError>
-    ensures { OnOk result (string_bytes out.new ≡ string_bytes out.old ++ (line_text (Line.Loop index strip.now) ++ (10 ∷ []))) }
+    ensures { OnOk result (string_bytes out.new ≡ string_bytes out.old
+        ++ (line_text (Line.Loop index strip.now) ++ (10 ∷ []))) }
 {
     let length = strip.length;
     let cycle = strip.cycle;
@@ -64,7 +70,8 @@ fn write_strip(out: &mut String, index: usize, strip: &StripSettings) -> Result<
 
 /// Writes the lines of all loops, by index.
 fn write_strips(out: &mut String, strips: &[StripSettings]) -> Result<(), AllocError>
-    ensures { OnOk result (string_bytes out.new ≡ string_bytes out.old ++ lines_then line_text (loop_lines 0 strips.now) []) }
+    ensures { OnOk result (string_bytes out.new ≡ string_bytes out.old
+        ++ lines_then line_text (loop_lines 0 strips.now) []) }
 {
     'strips: for index in 0..strips.len() {
         write_strip(out, index, &strips[index])?;
@@ -79,7 +86,9 @@ fn write_parts(
     globals: &Globals,
     strips: &[StripSettings],
 ) -> Result<String, AllocError>
-    ensures { IfOk result (λ text. string_bytes text ≡ session_text (record { rate = rate; globals = globals.now; strips = strips.now })) }
+    ensures { IfOk result
+        (λ text. string_bytes text ≡ session_text
+        (record { rate = rate; globals = globals.now; strips = strips.now })) }
 {
     let mut out = String::from_str(alloc, "looper session 1\n")?;
     write_front(&mut out, rate, strips.len())?;

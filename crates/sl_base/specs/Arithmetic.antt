@@ -1,7 +1,8 @@
 -- A sample is a whole number of 24 bits, from -8388608 to 8388607.
 -- Sums are clamped: a number outside the range becomes the nearest number in it.
 -- A level is a number of thousandths from 0 to 1000, and scaling by it divides toward zero.
--- A 16-bit sample is 256 times as much in 24 bits. Going back to 16 bits divides by 256, rounding down.
+-- A 16-bit sample is 256 times as much in 24 bits. Going back to 16 bits divides by 256, rounding
+-- down.
 -- "Frames and arithmetic" in docs/rules.md.
 use Rattle.std.specs.Prelude.{ℕ, min, ℤ, pos, negsuc, ◌*ℤ◌, ◌≤ℤ◌, int_div}
 use Rattle.std.specs.Int.{int_div_euclid}

@@ -1,5 +1,5 @@
--- A count of failures, as of faults or of rings that were full, never falls. It rises in each call of its kind that fails,
--- and in no other call. At the last value of its type it stands still.
+-- A count of failures, as of faults or of rings that were full, never falls. It rises in each call
+-- of its kind that fails, and in no other call. At the last value of its type it stands still.
 -- "Counts of failures" in docs/rules.md.
 use Rattle.std.specs.Prelude.{◌≡◌, ℕ, ◌+◌, ◌-◌, ◌^◌, ◌≤◌, min, max, Bool, IsTrue, IsFalse}
 

@@ -1,4 +1,5 @@
--- What there may be at most, each limit once by its name. `src/limits.rt` has the same numbers for the code.
+-- What there may be at most, each limit once by its name. `src/limits.rt` has the same numbers for
+-- the code.
 -- "Limits" in docs/rules.md.
 use Rattle.std.specs.Prelude.{ℕ}
 

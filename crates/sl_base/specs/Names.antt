@@ -8,7 +8,8 @@ is_between low high byte = nat_le low byte && nat_le byte high
 
 -- a letter, a digit, '.', '_' or '-'
 abbrev pub is_name_byte : ℕ → Bool
-is_name_byte byte = is_between 65 90 byte || is_between 97 122 byte || is_between 48 57 byte || byte == 46 || byte == 95 || byte == 45
+is_name_byte byte = is_between 65 90 byte || is_between 97 122 byte || is_between 48 57 byte
+    || byte == 46 || byte == 95 || byte == 45
 
 -- each byte may stand in a name
 abbrev pub are_name_bytes : List ℕ → Bool

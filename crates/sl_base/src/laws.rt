@@ -11,8 +11,10 @@ pub fn clamped_is_a_sample()
 
 /// No sample is nearer: the clamped number lies between the number and each sample.
 pub fn clamped_is_nearest()
-    ensures below { (number sample : ℤ) → IsSample sample → sample ≤ℤ number → (sample ≤ℤ clamped number) × (clamped number ≤ℤ number) }
-    ensures above { (number sample : ℤ) → IsSample sample → number ≤ℤ sample → (number ≤ℤ clamped number) × (clamped number ≤ℤ sample) }
+    ensures below { (number sample : ℤ) → IsSample sample → sample ≤ℤ number →
+        (sample ≤ℤ clamped number) × (clamped number ≤ℤ number) }
+    ensures above { (number sample : ℤ) → IsSample sample → number ≤ℤ sample →
+        (number ≤ℤ clamped number) × (clamped number ≤ℤ sample) }
 {}
 
 /// A thousand thousandths are the whole.

@@ -1,14 +1,17 @@
 //! The base: frames, names and the arithmetic of samples.
 //!
-//! - A sample is a whole number of 24 bits, -8388608 to 8388607. A frame has two, left and right, and keeps both in
-//!   this range.
+//! - A sample is a whole number of 24 bits, -8388608 to 8388607. A frame has two, left and right,
+//!   and keeps both in this range.
 //! - `clamp24` gives the nearest sample, `scale` so many thousandths of one, divided toward zero.
 //! - A list of frames is seen by contracts as a list of sounds, each a pair of whole numbers.
-//! - Each limit of the product stands once in `limits`, by its name, and `specs/Counting` says what a count of failures is.
-//! - A name is 1 to 64 bytes of `A-Z a-z 0-9 . _ -`, the first not `.`. `Name::read` answers exactly for such bytes.
+//! - Each limit of the product stands once in `limits`, by its name, and `specs/Counting` says what
+//!   a count of failures is.
+//! - A name is 1 to 64 bytes of `A-Z a-z 0-9 . _ -`, the first not `.`. `Name::read` answers
+//!   exactly for such bytes.
 //!
-//! Begin with `arithmetic`, then `frame` and `frames`; `name` has the name rule, `laws` what holds of the definitions.
-//! The rules are "Frames and arithmetic", "Names", "Limits" and "Counts of failures" in docs/rules.md.
+//! Begin with `arithmetic`, then `frame` and `frames`; `name` has the name rule, `laws` what holds
+//! of the definitions. The rules are "Frames and arithmetic", "Names", "Limits" and "Counts of
+//! failures" in docs/rules.md.
 #![tactic(auto)]
 
 mod addr;

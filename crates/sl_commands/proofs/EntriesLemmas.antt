@@ -13,73 +13,99 @@ both true b is = (refl, is)
 both false b is = Prim.cc
 
 -- the test goes through one list, then through the next
-pub are_stamped_behind-append : (before xs ys : List Entry) → are_stamped_behind before (xs ++ ys) ≡ (are_stamped_behind before xs && are_stamped_behind (before ++ xs) ys)
+pub are_stamped_behind-append : (before xs ys : List Entry) →
+    are_stamped_behind before
+    (xs ++ ys) ≡ (are_stamped_behind before xs && are_stamped_behind (before ++ xs) ys)
 are_stamped_behind-append before [] ys = ap (λ b. are_stamped_behind b ys) (sym (append-nil before))
 are_stamped_behind-append before (x ∷ xs) ys =
     ap (λ b. may_be_next before x && b) (are_stamped_behind-append (before ++ x ∷ []) xs ys)
-    ∙ ap (λ b. may_be_next before x && (are_stamped_behind (before ++ x ∷ []) xs && are_stamped_behind b ys)) (append_assoc before (x ∷ []) xs)
-    ∙ sym (and_assoc (may_be_next before x) (are_stamped_behind (before ++ x ∷ []) xs) (are_stamped_behind (before ++ x ∷ xs) ys))
+    ∙ ap (λ b. may_be_next before x
+    && (are_stamped_behind (before ++ x ∷ []) xs && are_stamped_behind b ys))
+    (append_assoc before (x ∷ []) xs)
+    ∙ sym (and_assoc (may_be_next before x) (are_stamped_behind (before ++ x ∷ []) xs)
+    (are_stamped_behind (before ++ x ∷ xs) ys))
 
 -- entries are stamped with one more where they are without it and it may be next
-pub are_stamped-push : (es : List Entry) (e : Entry) → are_stamped (es ++ e ∷ []) ≡ (are_stamped es && may_be_next es e)
-are_stamped-push es e = are_stamped_behind-append [] es (e ∷ []) ∙ ap (λ b. are_stamped es && b) (and-true (may_be_next es e))
+pub are_stamped-push : (es : List Entry) (e : Entry) →
+    are_stamped (es ++ e ∷ []) ≡ (are_stamped es && may_be_next es e)
+are_stamped-push es e = are_stamped_behind-append [] es (e ∷ [])
+    ∙ ap (λ b. are_stamped es && b) (and-true (may_be_next es e))
 
 -- the last frame is that of the entry at the end
-pub last_frame-push : (frame : ℕ) (es : List Entry) (e : Entry) → last_frame_from frame (es ++ e ∷ []) ≡ e.frame
+pub last_frame-push : (frame : ℕ) (es : List Entry) (e : Entry) →
+    last_frame_from frame (es ++ e ∷ []) ≡ e.frame
 last_frame-push frame [] e = refl
 last_frame-push frame (x ∷ xs) e = last_frame-push x.frame xs e
 
 -- the entries of a sender, with one more at the end
-entries_of-push : (sender : ℕ) (before : List Entry) (e : Entry) → entries_of sender (before ++ e ∷ []) ≡ entries_of sender before ++ cond (e.sender == sender) (e ∷ []) []
+entries_of-push : (sender : ℕ) (before : List Entry) (e : Entry) →
+    entries_of sender (before ++ e ∷ []) ≡ entries_of sender before
+    ++ cond (e.sender == sender) (e ∷ []) []
 entries_of-push sender before e = filter-append (λ x. x.sender == sender) before (e ∷ [])
 
 -- so many entries has a sender, with one more
-count-push : (sender : ℕ) (before : List Entry) (e : Entry) → length (entries_of sender (before ++ e ∷ [])) ≡ length (entries_of sender before) + length (cond (e.sender == sender) (e ∷ []) [])
+count-push : (sender : ℕ) (before : List Entry) (e : Entry) →
+    length (entries_of sender (before ++ e ∷ [])) ≡ length (entries_of sender before)
+    + length (cond (e.sender == sender) (e ∷ []) [])
 count-push sender before e =
-    ap length (entries_of-push sender before e) ∙ length-append (entries_of sender before) (cond (e.sender == sender) (e ∷ []) [])
+    ap length (entries_of-push sender before e)
+    ∙ length-append (entries_of sender before) (cond (e.sender == sender) (e ∷ []) [])
 
 -- stamped entries have frames that never fall
-stamped_frames : (before es : List Entry) → are_stamped_behind before es ≡ true → FramesNeverFall (last_frame before) es
+stamped_frames : (before es : List Entry) → are_stamped_behind before es ≡ true →
+    FramesNeverFall (last_frame before) es
 stamped_frames before [] is = tt
 stamped_frames before (e ∷ es) is =
     let halves = both _ _ is in (
       leb-true _ _ ((both _ _ halves.0).0),
-      subst (λ (f : ℕ). FramesNeverFall f es) (last_frame-push 0 before e) (stamped_frames (before ++ e ∷ []) es halves.1),
+      subst (λ (f : ℕ). FramesNeverFall f es) (last_frame-push 0 before e)
+          (stamped_frames (before ++ e ∷ []) es halves.1),
     )
 
 -- an entry's number, and those behind it, where this sender is its own or another
 numbers_step :
-    (sender : ℕ) (before : List Entry) (e : Entry) (es : List Entry) (own : Bool) → (own ≡ true → e.seq ≡ length (entries_of sender before))
-    → AreNumberedFrom (length (entries_of sender before) + length (cond own (e ∷ []) [])) (entries_of sender es)
-    → AreNumberedFrom (length (entries_of sender before)) (cond own (e ∷ entries_of sender es) (entries_of sender es))
+    (sender : ℕ) (before : List Entry) (e : Entry) (es : List Entry) (own : Bool) →
+    (own ≡ true → e.seq ≡ length (entries_of sender before))
+    → AreNumberedFrom (length (entries_of sender before) + length (cond own (e ∷ []) []))
+    (entries_of sender es)
+    → AreNumberedFrom (length (entries_of sender before))
+    (cond own (e ∷ entries_of sender es) (entries_of sender es))
 numbers_step sender before e es true number rest = (number refl, rest)
 numbers_step sender before e es false number rest =
-    let same : length (entries_of sender before) + 0 ≡ length (entries_of sender before) = omega arith in
+    let same : length (entries_of sender before) + 0 ≡ length (entries_of sender before) =
+    omega arith in
     subst (λ (n : ℕ). AreNumberedFrom n (entries_of sender es)) same rest
 
 -- stamped entries are numbered sender by sender
-stamped_numbers : (before es : List Entry) (sender : ℕ) → are_stamped_behind before es ≡ true → AreNumberedFrom (length (entries_of sender before)) (entries_of sender es)
+stamped_numbers : (before es : List Entry) (sender : ℕ) → are_stamped_behind before es ≡ true →
+    AreNumberedFrom (length (entries_of sender before)) (entries_of sender es)
 stamped_numbers before [] sender is = tt
 stamped_numbers before (e ∷ es) sender is =
     let halves = both _ _ is in
     numbers_step sender before e es (e.sender == sender)
-    (λ own. eqb-true _ _ ((both _ _ halves.0).1) ∙ ap (λ s. length (entries_of s before)) (eqb-true e.sender sender own))
-    (subst (λ (n : ℕ). AreNumberedFrom n (entries_of sender es)) (count-push sender before e) (stamped_numbers (before ++ e ∷ []) es sender halves.1))
+    (λ own. eqb-true _ _ ((both _ _ halves.0).1)
+    ∙ ap (λ s. length (entries_of s before)) (eqb-true e.sender sender own))
+    (subst (λ (n : ℕ). AreNumberedFrom n (entries_of sender es)) (count-push sender before e)
+    (stamped_numbers (before ++ e ∷ []) es sender halves.1))
 
 -- the other way for an entry's number
 numbers_back :
     (sender : ℕ) (before : List Entry) (e : Entry) (es : List Entry) (own : Bool)
-    → AreNumberedFrom (length (entries_of sender before)) (cond own (e ∷ entries_of sender es) (entries_of sender es))
-    → AreNumberedFrom (length (entries_of sender before) + length (cond own (e ∷ []) [])) (entries_of sender es)
+    → AreNumberedFrom (length (entries_of sender before))
+    (cond own (e ∷ entries_of sender es) (entries_of sender es))
+    → AreNumberedFrom (length (entries_of sender before) + length (cond own (e ∷ []) []))
+    (entries_of sender es)
 numbers_back sender before e es true numbers = numbers.1
 numbers_back sender before e es false numbers =
-    let same : length (entries_of sender before) ≡ length (entries_of sender before) + 0 = omega arith in
+    let same : length (entries_of sender before) ≡ length (entries_of sender before) + 0 =
+    omega arith in
     subst (λ (n : ℕ). AreNumberedFrom n (entries_of sender es)) same numbers
 
 -- an entry's own number
 own_number :
     (before : List Entry) (e : Entry) (es : List Entry) (own : Bool) → own ≡ true
-    → AreNumberedFrom (length (entries_of e.sender before)) (cond own (e ∷ entries_of e.sender es) (entries_of e.sender es))
+    → AreNumberedFrom (length (entries_of e.sender before))
+    (cond own (e ∷ entries_of e.sender es) (entries_of e.sender es))
     → e.seq ≡ length (entries_of e.sender before)
 own_number before e es true own numbers = numbers.0
 own_number before e es false own numbers = Prim.cc
@@ -94,18 +120,22 @@ stamped_from before (e ∷ es) frames numbers =
     let later : are_stamped_behind (before ++ e ∷ []) es ≡ true =
     stamped_from (before ++ e ∷ []) es
     (subst (λ (f : ℕ). FramesNeverFall f es) (sym (last_frame-push 0 before e)) frames.1)
-    (λ s. subst (λ (n : ℕ). AreNumberedFrom n (entries_of s es)) (sym (count-push s before e)) (numbers_back s before e es (e.sender == s) (numbers s)))
+    (λ s. subst (λ (n : ℕ). AreNumberedFrom n (entries_of s es)) (sym (count-push s before e))
+    (numbers_back s before e es (e.sender == s) (numbers s)))
     in
     rw (
       le-leb (last_frame before) e.frame frames.0,
-      eq-eqb e.seq (length (entries_of e.sender before)) (own_number before e es (e.sender == e.sender) (eq-eqb e.sender e.sender refl) (numbers e.sender)),
+      eq-eqb e.seq (length (entries_of e.sender before))
+          (own_number before e es (e.sender == e.sender) (eq-eqb e.sender e.sender refl)
+          (numbers e.sender)),
       later,
     )
     refl
 
 -- the test says what the rule says
 pub stamped_is_in_order : (es : List Entry) → are_stamped es ≡ true → IsStamped es
-stamped_is_in_order es is = record { frames = stamped_frames [] es is; numbers = λ s. stamped_numbers [] es s is }
+stamped_is_in_order es is =
+    record { frames = stamped_frames [] es is; numbers = λ s. stamped_numbers [] es s is }
 
 -- and the rule what the test says
 pub in_order_is_stamped : (es : List Entry) → IsStamped es → are_stamped es ≡ true

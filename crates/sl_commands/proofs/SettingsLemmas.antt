@@ -21,18 +21,28 @@ pub some_loop : (loops : ℕ) → is_loop_count loops ≡ true → 0 < loops
 some_loop loops counted = grind arith
 
 -- so many empty loops are settings
-pub are_settings-default : (rate loops : ℕ) → is_rate rate ≡ true → is_loop_count loops ≡ true → are_settings (default_settings rate loops) ≡ true
+pub are_settings-default : (rate loops : ℕ) → is_rate rate ≡ true → is_loop_count loops ≡ true →
+    are_settings (default_settings rate loops) ≡ true
 are_settings-default rate loops rated counted =
-    rw (length-replicate loops default_strip, are_globals-default loops (some_loop loops counted), are_strips-replicate loops, counted, rated) refl
+    rw (
+      length-replicate loops default_strip,
+      are_globals-default loops (some_loop loops counted),
+      are_strips-replicate loops,
+      counted,
+      rated,
+    ) refl
 
 -- the same of a looper's strips and controls, and the number of loops is that of the strips
 pub are_default_settings :
-    (rate loops : ℕ) (globals : Globals) (strips : List StripSettings) → globals ≡ default_globals → strips ≡ replicate loops default_strip
+    (rate loops : ℕ) (globals : Globals) (strips : List StripSettings) → globals ≡ default_globals →
+    strips ≡ replicate loops default_strip
     → is_rate rate ≡ true → is_loop_count loops ≡ true
-    → (loops ≡ length strips) × (are_settings (record { rate = rate; globals = globals; strips = strips }) ≡ true)
+    → (loops ≡ length strips)
+    × (are_settings (record { rate = rate; globals = globals; strips = strips }) ≡ true)
 are_default_settings rate loops globals strips same_globals same_strips rated counted = (
   rw (same_strips, length-replicate loops default_strip) refl,
   ap (λ g. are_settings (record { rate = rate; globals = g; strips = strips })) same_globals
-      ∙ ap (λ ss. are_settings (record { rate = rate; globals = default_globals; strips = ss })) same_strips
+      ∙ ap (λ ss. are_settings (record { rate = rate; globals = default_globals; strips = ss }))
+      same_strips
       ∙ are_settings-default rate loops rated counted,
 )

@@ -1,7 +1,9 @@
--- A command is for one loop, for all loops, or for the selected one. What is read or saved is never all loops, and a
--- release is for the loop of a loop's save, or for all loops where a session was saved.
--- A set and a get name a loop's control, a global set and a global get one of the looper's. What is set lies in the
--- control's range. A release tells how the save ended: 0 written, 1 the keeper failed, 4 no memory.
+-- A command is for one loop, for all loops, or for the selected one. What is read or saved is never
+-- all loops, and a release is for the loop of a loop's save, or for all loops where a session was
+-- saved.
+-- A set and a get name a loop's control, a global set and a global get one of the looper's. What is
+-- set lies in the control's range. A release tells how the save ended: 0 written, 1 the keeper
+-- failed, 4 no memory.
 -- The name of a session has at most 48 bytes. In messages and texts a target is a number.
 -- "Commands" in docs/rules.md.
 use Rattle.std.specs.Prelude.{ℕ, ℤ, pos, negsuc, Option, Some, None, if◌then◌else◌, Bool, true, false, ◌&&◌, ◌||◌, not, ◌==◌, nat_le, nat_lt, List, length}
@@ -55,8 +57,10 @@ abbrev pub is_allowed : ℕ → Command → Bool
 is_allowed loops (Down target verb) = is_target loops target
 is_allowed loops (Up target verb) = is_target loops target
 is_allowed loops (Hit target verb) = is_target loops target
-is_allowed loops (Set target control value) = is_target loops target && is_of_loop control && is_in_range control value loops
-is_allowed loops (SetGlobal control value) = not (is_of_loop control) && is_in_range control value loops
+is_allowed loops (Set target control value) = is_target loops target && is_of_loop control
+    && is_in_range control value loops
+is_allowed loops (SetGlobal control value) =
+    not (is_of_loop control) && is_in_range control value loops
 is_allowed loops (Get target control) = is_single_target loops target && is_of_loop control
 is_allowed loops (GetGlobal control) = not (is_of_loop control)
 is_allowed loops (SaveLoop target name) = is_single_target loops target && is_name name

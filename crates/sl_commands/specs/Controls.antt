@@ -1,8 +1,9 @@
--- A control is a number that is set or read. The first fifteen are of each loop, the others of the looper.
--- Each has a name, and those that can be set have a range and a value to begin with.
--- Lengths, positions and times are frames, feedback, wet and dry thousandths, rec_thresh is an absolute sample.
--- quantize is 0 off, 1 cycle, 2 eighth of a cycle, 3 loop. round is 0 or 1.
--- sync_source is -3 for the pulse, 0 for none, or a loop's number counted from 1. selected_loop_num counts from 0.
+-- A control is a number that is set or read. The first fifteen are of each loop, the others of the
+-- looper. Each has a name, and those that can be set have a range and a value to begin with.
+-- Lengths, positions and times are frames, feedback, wet and dry thousandths, rec_thresh is an
+-- absolute sample. quantize is 0 off, 1 cycle, 2 eighth of a cycle, 3 loop. round is 0 or 1.
+-- sync_source is -3 for the pulse, 0 for none, or a loop's number counted from 1. selected_loop_num
+-- counts from 0.
 -- "Controls" in docs/rules.md.
 use Rattle.std.specs.Str.{bytes_eq}
 use Rattle.std.specs.Prelude.{ℕ, ℤ, pos, negsuc, Bool, true, false, ◌&&◌, ◌==◌, nat_le, nat_lt, List, [], ◌∷◌, codes}
@@ -96,4 +97,6 @@ default_of c = first_of (control_row c).range
 
 -- all controls, in the order of the table
 abbrev pub controls : List Control
-controls = Feedback ∷ Wet ∷ Round ∷ Quantize ∷ RecThresh ∷ State ∷ LoopLen ∷ LoopPos ∷ CycleLen ∷ Waiting ∷ Layers ∷ RedoLayers ∷ Refused ∷ Reversed ∷ FreeTime ∷ Dry ∷ SyncSource ∷ SelectedLoopNum ∷ FadeStep ∷ LongPress ∷ Pulse ∷ []
+controls = Feedback ∷ Wet ∷ Round ∷ Quantize ∷ RecThresh ∷ State ∷ LoopLen ∷ LoopPos ∷ CycleLen
+    ∷ Waiting ∷ Layers ∷ RedoLayers ∷ Refused ∷ Reversed ∷ FreeTime ∷ Dry ∷ SyncSource
+    ∷ SelectedLoopNum ∷ FadeStep ∷ LongPress ∷ Pulse ∷ []

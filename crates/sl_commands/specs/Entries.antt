@@ -1,6 +1,7 @@
--- An entry is a command with the frame at which it applies, its sender, and its number among this sender's entries.
--- Senders are 0 for OSC, 1 for MIDI and 2 for the saver. Releases come from the saver alone, and it sends nothing else.
--- A list of entries is stamped where frames never fall, and each sender's numbers are 0, 1, 2 and so on in order.
+-- An entry is a command with the frame at which it applies, its sender, and its number among this
+-- sender's entries. Senders are 0 for OSC, 1 for MIDI and 2 for the saver. Releases come from the
+-- saver alone, and it sends nothing else. A list of entries is stamped where frames never fall, and
+-- each sender's numbers are 0, 1, 2 and so on in order.
 -- "Entries" in docs/rules.md.
 use Rattle.std.specs.Prelude.{◌≡◌, ◌≤◌, ℕ, ◌+◌, Bool, true, ◌&&◌, ◌==◌, nat_le, nat_lt, List, [], ◌∷◌, ◌++◌, length, filter}
 use Rattle.std.specs.List.{list_all}
@@ -35,14 +36,17 @@ last_frame_from frame (e ∷ es) = last_frame_from e.frame es
 abbrev pub last_frame : List Entry → ℕ
 last_frame es = last_frame_from 0 es
 
--- an entry may be stamped behind these: its frame isn't below the last, its number is how many its sender has
+-- an entry may be stamped behind these: its frame isn't below the last, its number is how many its
+-- sender has
 abbrev pub may_be_next : List Entry → Entry → Bool
-may_be_next before e = nat_le (last_frame before) e.frame && e.seq == length (entries_of e.sender before)
+may_be_next before e =
+    nat_le (last_frame before) e.frame && e.seq == length (entries_of e.sender before)
 
 -- each entry may be stamped behind those before it
 abbrev pub are_stamped_behind : List Entry → List Entry → Bool
 are_stamped_behind before [] = true
-are_stamped_behind before (e ∷ es) = may_be_next before e && are_stamped_behind (before ++ e ∷ []) es
+are_stamped_behind before (e ∷ es) =
+    may_be_next before e && are_stamped_behind (before ++ e ∷ []) es
 
 -- the entries are stamped
 abbrev pub are_stamped : List Entry → Bool
@@ -58,7 +62,8 @@ abbrev pub AreNumberedFrom : ℕ → List Entry → Type 0
 AreNumberedFrom number [] = Unit {0}
 AreNumberedFrom number (e ∷ es) = (e.seq ≡ number) × AreNumberedFrom (number + 1) es
 
--- what stamped means, in one sentence: frames never fall, and each sender's numbers are 0, 1, 2 and so on
+-- what stamped means, in one sentence: frames never fall, and each sender's numbers are 0, 1, 2 and
+-- so on
 pub record IsStamped (es : List Entry) : Type 0 where
   pub frames : FramesNeverFall 0 es
   pub numbers : (sender : ℕ) → AreNumberedFrom 0 (entries_of sender es)

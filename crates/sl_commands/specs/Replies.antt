@@ -1,5 +1,5 @@
--- A reply tells the value of a control under the control's name, or how a save ended: of a loop under `save_loop`, of a
--- session under `save_session`.
+-- A reply tells the value of a control under the control's name, or how a save ended: of a loop
+-- under `save_loop`, of a session under `save_session`.
 -- "Replies" in docs/rules.md.
 use Rattle.std.specs.Prelude.{ℕ, List, codes}
 use Rattle.sl_commands.specs.declared.reply.What.{What}

@@ -1,6 +1,7 @@
 -- The settings of a looper are its rate, the values of its own controls, and one strip per loop.
--- A strip's settings are the length of its list, its cycle, and the values of a loop's controls that can be set.
--- The rate is 1 to 768000, there are 1 to 16 loops, and each value lies in its control's range.
+-- A strip's settings are the length of its list, its cycle, and the values of a loop's controls
+-- that can be set. The rate is 1 to 768000, there are 1 to 16 loops, and each value lies in its
+-- control's range.
 -- A length is at most 16777216. The cycle is 1 to the length, or 0 where the length is 0.
 -- "Settings" in docs/rules.md.
 use Rattle.std.specs.Prelude.{ℕ, zero, suc, pos, Bool, ◌&&◌, ◌==◌, nat_le, List, length, replicate}
@@ -57,7 +58,8 @@ is_loop_count loops = nat_le 1 loops && nat_le loops max_loops
 
 -- all values lie in their ranges
 abbrev pub are_settings : LooperSettings → Bool
-are_settings s = is_rate s.rate && is_loop_count (length s.strips) && are_globals (length s.strips) s.globals && are_strips s.strips
+are_settings s = is_rate s.rate && is_loop_count (length s.strips)
+    && are_globals (length s.strips) s.globals && are_strips s.strips
 
 -- the looper's controls as they begin
 abbrev pub default_globals : Globals
@@ -86,4 +88,5 @@ default_strip =
 
 -- so many empty loops at a rate, all controls as they begin
 abbrev pub default_settings : ℕ → ℕ → LooperSettings
-default_settings rate loops = record { rate = rate; globals = default_globals; strips = replicate loops default_strip }
+default_settings rate loops =
+    record { rate = rate; globals = default_globals; strips = replicate loops default_strip }

@@ -1,4 +1,5 @@
--- A text is judged line by line, and its first fault has a line, counted from 1, and a kind. The kinds have numbers.
+-- A text is judged line by line, and its first fault has a line, counted from 1, and a kind. The
+-- kinds have numbers.
 -- "Faults of texts" in docs/rules.md.
 use Rattle.std.specs.Prelude.{ℕ}
 use Rattle.sl_commands.specs.declared.fault.TextKind.{TextKind}

@@ -1,4 +1,5 @@
--- A verb is what is done to a loop. There are 17, each with a name and a number, the first number being 0.
+-- A verb is what is done to a loop. There are 17, each with a name and a number, the first number
+-- being 0.
 -- "Verbs and their names" in docs/rules.md.
 use Rattle.std.specs.Str.{bytes_eq}
 use Rattle.std.specs.Prelude.{ℕ, Bool, List, [], ◌∷◌, codes}
@@ -44,7 +45,8 @@ verb_number v = (verb_row v).number
 
 -- all verbs, by their numbers
 abbrev pub verbs : List Verb
-verbs = Rec ∷ Overdub ∷ Multiply ∷ Insert ∷ Replace ∷ Substitute ∷ Mute ∷ MuteOn ∷ MuteOff ∷ OneShot ∷ Trigger ∷ Reverse ∷ Pause ∷ Undo ∷ Redo ∷ UndoAll ∷ RedoAll ∷ []
+verbs = Rec ∷ Overdub ∷ Multiply ∷ Insert ∷ Replace ∷ Substitute ∷ Mute ∷ MuteOn ∷ MuteOff ∷ OneShot
+    ∷ Trigger ∷ Reverse ∷ Pause ∷ Undo ∷ Redo ∷ UndoAll ∷ RedoAll ∷ []
 
 -- the bytes are the name of a verb
 abbrev pub has_verb_name : List ℕ → Verb → Bool

@@ -17,7 +17,8 @@ pub enum Target {
 }
 
 impl Target {
-    /// The number in messages and texts: the loop's index, -1 for all loops, -3 for the selected one.
+    /// The number in messages and texts: the loop's index, -1 for all loops, -3 for the selected
+    /// one.
     pub fn number(self) -> i32
         ensures { result ≡ target_number self }
     {
@@ -76,7 +77,8 @@ impl Target {
     }
 }
 
-/// One command. A `Set` and a `Get` are of a loop's control, a `SetGlobal` and a `GetGlobal` of the looper's.
+/// One command. A `Set` and a `Get` are of a loop's control, a `SetGlobal` and a `GetGlobal` of the
+/// looper's.
 #[derive(Drop, PartialEq, Eq)]
 pub enum Command {
     Down(Target, Verb),
@@ -88,7 +90,8 @@ pub enum Command {
     GetGlobal(Control),
     SaveLoop(Target, Name),
     SaveSession(Name),
-    /// The saver's word that a save has ended: 0 all is written, 1 the keeper failed, 4 there was no memory.
+    /// The saver's word that a save has ended: 0 all is written, 1 the keeper failed, 4 there was
+    /// no memory.
     Release(Target, u8),
     Quit,
 }

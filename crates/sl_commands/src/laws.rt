@@ -38,7 +38,8 @@ pub fn only_what_can_be_set_has_a_range(control: Control, value: i32, loops: u8)
 /// What can be set begins in its range, where there is a loop.
 pub fn controls_begin_in_their_ranges(control: Control, loops: u8)
     requires { 0 < loops }
-    ensures { IsTrue (can_be_set control) → IsTrue (is_in_range control (pos (default_of control)) loops) }
+    ensures { IsTrue (can_be_set control) →
+        IsTrue (is_in_range control (pos (default_of control)) loops) }
 {}
 
 /// Verbs are equal where they are the same.
@@ -53,7 +54,8 @@ pub fn equal_controls_are_the_same(control: Control, other: Control)
 
 /// Commands are equal where contracts see the same, and only there.
 pub fn equal_commands_are_the_same(command: &Command, other: &Command)
-    ensures { IsTrue (⟦<Command as PartialEq>⟧.eq command.now other.now) ↔ (command.now ≡ other.now) }
+    ensures { IsTrue (⟦<Command as PartialEq>⟧.eq command.now other.now) ↔
+        (command.now ≡ other.now) }
 {
     // The cases are told apart for the proof alone.
     match command {
@@ -105,10 +107,12 @@ pub fn targets_come_back_from_their_numbers(target: Target)
 
 /// Entries are stamped with one more where they are without it and it may be next.
 pub fn a_stamped_list_grows_at_its_end(entries: &[Entry], entry: &Entry)
-    ensures { are_stamped (entries.now ++ entry.now ∷ []) ≡ (are_stamped entries.now && may_be_next entries.now entry.now) }
+    ensures { are_stamped (entries.now ++ entry.now ∷ [])
+        ≡ (are_stamped entries.now && may_be_next entries.now entry.now) }
 {}
 
-/// Entries are stamped where frames never fall and each sender's numbers are 0, 1, 2 and so on, and only there.
+/// Entries are stamped where frames never fall and each sender's numbers are 0, 1, 2 and so on, and
+/// only there.
 pub fn stamped_entries_are_in_order(entries: &[Entry])
     ensures found { IsTrue (are_stamped entries.now) → IsStamped entries.now }
     ensures only { IsStamped entries.now → IsTrue (are_stamped entries.now) }
@@ -125,13 +129,16 @@ pub fn a_whole_save_may_follow(
 )
     requires due { place_of sent.now ≡ Some (record { saves = save; underway = None }) }
     requires save { IsSave target name.now (length settings.now.strips) lists.now }
-    ensures follow { (bound : ℕ) → save < bound → IsTrue (may_all_follow sent.now (blocks_of save name.now target settings.now lists.now) bound) }
+    ensures follow { (bound : ℕ) → save < bound →
+        IsTrue (may_all_follow sent.now (blocks_of save name.now target settings.now lists.now)
+        bound) }
     ensures done { place_of (sent.now ++ blocks_of save name.now target settings.now lists.now)
         ≡ Some (record { saves = save + 1; underway = None }) }
 {}
 
 /// Before a save has ended, no block of another may come.
 pub fn a_save_is_sent_to_its_end(sent: &[Block], block: &Block, bound: u32)
-    ensures { (save : ℕ) (underway : Underway) → place_of sent.now ≡ Some (record { saves = save; underway = Some underway })
+    ensures { (save : ℕ) (underway : Underway) →
+        place_of sent.now ≡ Some (record { saves = save; underway = Some underway })
         → IsTrue (may_follow sent.now block.now bound) → save_of block.now ≡ save }
 {}

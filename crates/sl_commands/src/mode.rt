@@ -26,8 +26,9 @@ pub struct Held {
     pub frame: u64,
 }
 
-/// A loop as its verbs see it. `pos`, `length`, `cycle` and `base` are frames, `base` the length of the list from which
-/// the open layer began; `layers` and `redo` are numbers of layers, `refused` is what was refused so far.
+/// A loop as its verbs see it. `pos`, `length`, `cycle` and `base` are frames, `base` the length of
+/// the list from which the open layer began; `layers` and `redo` are numbers of layers, `refused`
+/// is what was refused so far.
 #[derive(Clone, Copy, PartialEq, Eq)]
 pub struct Face {
     pub mode: Mode,
@@ -45,7 +46,8 @@ pub struct Face {
     pub pinned: bool,
 }
 
-/// How a frame is written: over the one at a place, in the loop's direction, before it, or at the end.
+/// How a frame is written: over the one at a place, in the loop's direction, before it, or at the
+/// end.
 #[derive(Clone, Copy, PartialEq, Eq)]
 pub enum How {
     Forward,
@@ -54,7 +56,8 @@ pub enum How {
     Append,
 }
 
-/// What became of the start of a layer: `Ok`, or there are too many layers, too many seams, or no room on the tape.
+/// What became of the start of a layer: `Ok`, or there are too many layers, too many seams, or no
+/// room on the tape.
 #[derive(Clone, Copy, PartialEq, Eq)]
 pub enum Started {
     Ok,

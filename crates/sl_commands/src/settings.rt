@@ -178,7 +178,8 @@ impl Strips {
     }
 }
 
-/// The settings of a looper. `rate` is frames a second, 1 to 768000, and there is one strip per loop.
+/// The settings of a looper. `rate` is frames a second, 1 to 768000, and there is one strip per
+/// loop.
 #[derive(Drop)]
 pub struct Settings {
     pub rate: u32,
@@ -195,11 +196,13 @@ impl Model for Settings {
 
     ghost view = { λ s. record { rate = s.rate; globals = s.globals; strips = s.strips } };
 
-    ghost invariant = { λ s. (s.loops ≡ length s.strips) × IsTrue (are_settings (record { rate = s.rate; globals = s.globals; strips = s.strips })) };
+    ghost invariant = { λ s. (s.loops ≡ length s.strips)
+        × IsTrue (are_settings (record { rate = s.rate; globals = s.globals; strips = s.strips })) };
 }
 
 fn are_settings(rate: u32, globals: &Globals, strips: &Strips) -> bool
-    ensures { result ≡ are_settings (record { rate = rate; globals = globals.now; strips = strips.now }) }
+    ensures { result ≡ are_settings
+        (record { rate = rate; globals = globals.now; strips = strips.now }) }
 {
     let loops = strips.len();
     1 <= rate
@@ -213,8 +216,10 @@ fn are_settings(rate: u32, globals: &Globals, strips: &Strips) -> bool
 impl Settings {
     /// Settings of these values, or None where one isn't in its range.
     pub fn of(rate: u32, globals: Globals, strips: Strips) -> Option<Settings>
-        ensures value { IfSome result (λ s. s ≡ record { rate = rate; globals = globals; strips = strips }) }
-        ensures within { IsSome result ↔ IsTrue (are_settings (record { rate = rate; globals = globals; strips = strips })) }
+        ensures value { IfSome result
+            (λ s. s ≡ record { rate = rate; globals = globals; strips = strips }) }
+        ensures within { IsSome result ↔
+            IsTrue (are_settings (record { rate = rate; globals = globals; strips = strips })) }
     {
         if !are_settings(rate, &globals, &strips) {
             return None;

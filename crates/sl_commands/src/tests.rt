@@ -1,4 +1,5 @@
-//! What no clause says: the names and ranges as the tables give them, and that each call succeeds with ample memory.
+//! What no clause says: the names and ranges as the tables give them, and that each call succeeds
+//! with ample memory.
 
 use crate::{
     Command, Control, Entries, Entry, Globals, Initial, OSC, PartFrames, Settings, StripSettings,

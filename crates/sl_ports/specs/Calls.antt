@@ -1,5 +1,6 @@
 -- The calls of one kind on a memory end are numbered from 1. Those whose numbers are listed fail.
--- A call that fails raises the count of faults, whether its number is listed or memory is refused to a sink.
+-- A call that fails raises the count of faults, whether its number is listed or memory is refused
+-- to a sink.
 -- "The outside" in docs/rules.md.
 use Rattle.std.specs.Prelude.{ℕ, Bool, List, ◌==◌, if◌then◌else◌}
 use Rattle.std.specs.List.{list_any}
@@ -22,4 +23,9 @@ is_to_fail calls = list_any (λ number. number == raised calls.made) calls.faili
 -- after one more call, which failed or not
 abbrev pub counted : Tally → Bool → Tally
 counted calls failed =
-    record { failing = calls.failing; made = raised calls.made; faults = if failed then raised calls.faults else calls.faults }
+    record {
+      failing = calls.failing;
+      made = raised calls.made;
+      faults = if failed then
+          raised calls.faults else calls.faults;
+    }

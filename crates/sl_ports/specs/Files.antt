@@ -1,6 +1,6 @@
 -- Files by name. A keeper of files has at most one file under each name, and a file is its bytes.
--- To write a file gives it exactly these bytes, whether it was there or not, and leaves the other files as they are.
--- What a keeper has may be untold: then nothing is said of it.
+-- To write a file gives it exactly these bytes, whether it was there or not, and leaves the other
+-- files as they are. What a keeper has may be untold: then nothing is said of it.
 -- "The outside" in docs/rules.md.
 use Rattle.std.specs.Prelude.{◌≡◌, ℕ, List, Option, Some, None, if◌then◌else◌, ⊤}
 use Rattle.std.specs.Option.{option_map}

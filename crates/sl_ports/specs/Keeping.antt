@@ -1,4 +1,5 @@
--- A file that is written has exactly the bytes given. A failure and want of memory leave every file as it was.
+-- A file that is written has exactly the bytes given. A failure and want of memory leave every file
+-- as it was.
 -- "The outside" in docs/rules.md.
 use Rattle.std.specs.Prelude.{ℕ, Bool, true, false, List, Option}
 use Rattle.sl_ports.specs.Files.{Files, put_told}

@@ -1,5 +1,6 @@
 -- A memory sink holds the bytes that were written, and a memory keeper the files, oldest first.
--- Of the files that were written under one name the last counts. A write that isn't done leaves all as it was.
+-- Of the files that were written under one name the last counts. A write that isn't done leaves all
+-- as it was.
 -- "The outside" in docs/rules.md.
 use Rattle.std.specs.Prelude.{◌≡◌, ℕ, List, ⊤, [], ◌∷◌, ◌++◌, reverse}
 use Rattle.std.specs.Option.{option_map}
@@ -32,7 +33,8 @@ pub record KeeperState : Type 0 where
 
 -- the files by name
 abbrev pub files_of : List File → Files
-files_of written name = option_map (λ file. file.bytes) (find (λ file. bytes_eq file.name name) (reverse written))
+files_of written name =
+    option_map (λ file. file.bytes) (find (λ file. bytes_eq file.name name) (reverse written))
 
 -- the bytes held after a write with this answer
 abbrev pub bytes_after : List ℕ → List ℕ → SinkAnswer → List ℕ

@@ -1,6 +1,7 @@
 -- A file that is read gives its bytes, or the answer that there is no such file.
 -- A failure and want of memory say nothing of the file.
--- A file that is read up to a number of bytes has at most so many, or the answer is that it has more.
+-- A file that is read up to a number of bytes has at most so many, or the answer is that it has
+-- more.
 -- "The outside" in docs/rules.md.
 use Rattle.std.specs.Prelude.{◌≡◌, ℕ, ◌<◌, ◌≤◌, Bool, true, false, List, length, Option, Some, None, ⊤}
 use Rattle.sl_ports.specs.Files.{Files, Holds}
@@ -31,7 +32,8 @@ IsWithin most Memory = ⊤
 -- the file is there, with more than so many bytes
 abbrev pub IsLonger : Option Files → List ℕ → ℕ → Type 0
 IsLonger None name most = ⊤
-IsLonger (Some files) name most = (bytes : List ℕ) × (files name ≡ Some bytes) × (most < length bytes)
+IsLonger (Some files) name most = (bytes : List ℕ) × (files name ≡ Some bytes)
+    × (most < length bytes)
 
 -- the answer to a reading of at most so many bytes is a failure
 abbrev pub is_failed_within : Option FileAnswer → Bool

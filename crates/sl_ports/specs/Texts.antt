@@ -1,6 +1,6 @@
 -- A sink takes bytes and puts them behind those that it holds.
--- A write that is done appended all of its bytes, and one that failed appended a prefix of them, maybe none or all.
--- What a sink holds may be untold: then nothing is said of it.
+-- A write that is done appended all of its bytes, and one that failed appended a prefix of them,
+-- maybe none or all. What a sink holds may be untold: then nothing is said of it.
 -- "The outside" in docs/rules.md.
 use Rattle.std.specs.Prelude.{◌≡◌, ◌⊎◌, ℕ, Bool, true, false, List, Option, ◌++◌}
 use Rattle.std.specs.Io.KnownBytes.{Appends}
@@ -27,4 +27,5 @@ Writes old new bytes Failed = AppendsPrefix old new bytes
 
 -- the whole text was told, or a prefix of it, and then only where the count of faults rose
 abbrev pub Tells : ℕ → ℕ → Option (List ℕ) → Option (List ℕ) → List ℕ → Type 0
-Tells before now old new text = Appends old new text ⊎ (Rose before now × AppendsPrefix old new text)
+Tells before now old new text = Appends old new text
+    ⊎ (Rose before now × AppendsPrefix old new text)

@@ -15,15 +15,17 @@ use std::marker::Model;
 use std::rt::Files;
 use std::{fs, io};
 
-/// The file that a write makes before it takes the place of the named one. No `Name` begins with a dot.
+/// The file that a write makes before it takes the place of the named one. No `Name` begins with a
+/// dot.
 pub const NEW_FILE: &str = ".looper-new";
 
 /// Keeps the files of the working directory. It tells nothing of what they hold.
 ///
-/// A file that isn't read to its end in 4294967296 turns is answered `Failed`. A write makes a new file, `.looper-new`,
-/// and renames it once the system has taken all of it to the disk, so that the named file is the old one or the new one
-/// whatever happens. A write that is stopped from outside leaves `.looper-new` behind, and the next one begins it anew.
-/// So only one program at a time may write in a folder.
+/// A file that isn't read to its end in 4294967296 turns is answered `Failed`. A write makes a new
+/// file, `.looper-new`, and renames it once the system has taken all of it to the disk, so that the
+/// named file is the old one or the new one whatever happens. A write that is stopped from outside
+/// leaves `.looper-new` behind, and the next one begins it anew. So only one program at a time may
+/// write in a folder.
 #[derive(Drop)]
 pub struct DirKeeper<R> {
     rt: R,
@@ -108,8 +110,8 @@ fn read_named_within<R: Files>(rt: &R, alloc: Global, name: &str, most: usize) -
     }
 }
 
-/// Makes the new file, whole and on the disk. One that an earlier write left is removed first, and never written
-/// through, whatever it is.
+/// Makes the new file, whole and on the disk. One that an earlier write left is removed first, and
+/// never written through, whatever it is.
 fn write_new<R: Files>(rt: &R, bytes: &[u8]) -> io::Result<()> {
     let _ = fs::remove_file(rt, NEW_FILE);
     let mut file = File::create_new(rt, NEW_FILE)?;

@@ -51,7 +51,8 @@ pub trait Keeper {
         ensures value { Reads (files self.old) name.now result }
         ensures unchanged { files self.new ≡ files self.old };
 
-    /// Reads a file of at most `most` bytes. One that has more is answered None, and isn't held whole.
+    /// Reads a file of at most `most` bytes. One that has more is answered None, and isn't held
+    /// whole.
     fn read_file_within(&mut self, alloc: Global, name: &Name, most: usize) -> Option<FileAnswer>
         ensures counts { Counts
             (read_faults self.old) (read_faults self.new) (is_failed_within result) }
@@ -61,7 +62,8 @@ pub trait Keeper {
 
     /// Writes a whole file, over one of the same name.
     fn write_file(&mut self, alloc: Global, name: &Name, bytes: &[u8]) -> KeepAnswer
-        ensures counts { Counts (write_faults self.old) (write_faults self.new) (write_failed result) }
+        ensures counts { Counts (write_faults self.old) (write_faults self.new)
+            (write_failed result) }
         ensures reads { read_faults self.new ≡ read_faults self.old }
         ensures value { files self.new ≡ kept (files self.old) name.now bytes.now result };
 }

@@ -1,13 +1,16 @@
 //! What stands outside of the looper: where bytes go, and where files are kept.
 //!
-//! - Whatever may fail keeps a count of its faults, one for each kind of call. A count never falls, and it rises in the
-//!   calls that answer `Failed`. So a caller that hands a failure on can say whose it was.
+//! - Whatever may fail keeps a count of its faults, one for each kind of call. A count never falls,
+//!   and it rises in the calls that answer `Failed`. So a caller that hands a failure on can say
+//!   whose it was.
 //! - A sink takes bytes in order. A write that is done took all of them, one that failed a prefix.
-//! - A keeper has files by name. A reading changes no file, and a write changes the one that it names, or none.
-//! - What a sink holds and a keeper has is told by those in memory. Nothing is said of it where it isn't told.
+//! - A keeper has files by name. A reading changes no file, and a write changes the one that it
+//!   names, or none.
+//! - What a sink holds and a keeper has is told by those in memory. Nothing is said of it where it
+//!   isn't told.
 //! - Want of memory is an answer of its own, and no count tells of it.
-//! - `MemSink` and `MemKeeper` stand in memory, and fail at the calls whose numbers they are given. `StdSink` and
-//!   `DirKeeper` are the real ones.
+//! - `MemSink` and `MemKeeper` stand in memory, and fail at the calls whose numbers they are given.
+//!   `StdSink` and `DirKeeper` are the real ones.
 //!
 //! Begin with `sinks` and `keepers`. The rules are "The outside" in docs/rules.md.
 #![tactic(auto)]

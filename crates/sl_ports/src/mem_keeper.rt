@@ -53,7 +53,8 @@ fn copied(alloc: Global, bytes: &[u8]) -> FileAnswer
     }
 }
 
-/// Keeps files in memory. Readings and writes of given numbers fail. A write whose memory is refused answers `Memory`.
+/// Keeps files in memory. Readings and writes of given numbers fail. A write whose memory is
+/// refused answers `Memory`.
 #[derive(Drop)]
 pub struct MemKeeper {
     written: Vec<StoredFile>,
@@ -70,7 +71,8 @@ impl Model for MemKeeper {
 }
 
 impl MemKeeper {
-    /// No files. The readings and the writes of the listed numbers, each counted from 1, are to fail.
+    /// No files. The readings and the writes of the listed numbers, each counted from 1, are to
+    /// fail.
     pub fn new(alloc: Global, failing_reads: Vec<u64>, failing_writes: Vec<u64>) -> MemKeeper
         ensures { result ≡ record {
           written = [];
@@ -118,7 +120,8 @@ impl Keeper for MemKeeper {
     fn read_file(&mut self, alloc: Global, name: &Name) -> FileAnswer
         ensures listed { read_failed result ≡ is_to_fail self.old.reads }
         ensures value { Reads (Some (files_of self.old.written)) name.now result }
-        ensures after { self.new ≡ record self.old { reads = counted self.old.reads (read_failed result) } }
+        ensures after { self.new ≡ record self.old
+            { reads = counted self.old.reads (read_failed result) } }
     {
         if self.reads.count() {
             return FileAnswer::Failed;

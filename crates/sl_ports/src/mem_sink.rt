@@ -10,8 +10,8 @@ use crate::sinks::{Sink, SinkAnswer};
 use std::alloc::Global;
 use std::marker::Model;
 
-/// Holds what is written to it. Writes of given numbers fail and append nothing, and so does one whose memory is
-/// refused.
+/// Holds what is written to it. Writes of given numbers fail and append nothing, and so does one
+/// whose memory is refused.
 #[derive(Drop)]
 pub struct MemSink {
     bytes: Vec<u8>,

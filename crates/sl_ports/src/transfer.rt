@@ -61,8 +61,8 @@ fn said_length<F: OpenFile>(file: &F) -> usize {
     }
 }
 
-/// Reads an open file to its end, or answers None as soon as more than `most` bytes have come. What the file is said
-/// to have is reserved at once, so that its memory is not doubled on the way.
+/// Reads an open file to its end, or answers None as soon as more than `most` bytes have come. What
+/// the file is said to have is reserved at once, so that its memory is not doubled on the way.
 pub fn read_within<F: Read + OpenFile>(
     alloc: Global,
     file: &mut F,

@@ -72,10 +72,13 @@ control_comes_back Pulse = refl
 
 -- so a name is that of one alone
 pub verb_is_one : (verb other : Verb) → verb_name verb ≡ verb_name other → verb ≡ other
-verb_is_one verb other same = some_is_one (sym (verb_comes_back verb) ∙ ap verb_from same ∙ verb_comes_back other)
+verb_is_one verb other same =
+    some_is_one (sym (verb_comes_back verb) ∙ ap verb_from same ∙ verb_comes_back other)
 
-pub control_is_one : (control other : Control) → control_name control ≡ control_name other → control ≡ other
-control_is_one control other same = some_is_one (sym (control_comes_back control) ∙ ap control_from same ∙ control_comes_back other)
+pub control_is_one : (control other : Control) → control_name control ≡ control_name other →
+    control ≡ other
+control_is_one control other same =
+    some_is_one (sym (control_comes_back control) ∙ ap control_from same ∙ control_comes_back other)
 
 -- each name is a word
 pub verb_name_is_word : (verb : Verb) → IsWord (verb_name verb)
@@ -204,21 +207,28 @@ short_below : (n : ℕ) → n ≤ 2147483647 → IsShort (negsuc n)
 short_below n low = record { low = omega (arith, ints); high = omega (arith, ints) }
 
 -- what lies in a range is one
-within_is_short : (range : Range) → IsSmall range → (loops : ℕ) → loops ≤ 16 → (value : ℤ) → is_within range loops value ≡ true → IsShort value
+within_is_short : (range : Range) → IsSmall range → (loops : ℕ) → loops ≤ 16 → (value : ℤ) →
+    is_within range loops value ≡ true → IsShort value
 within_is_short ReadOnly small loops few value is = absurd (false≢true is)
 within_is_short (Between least greatest first) small loops few (pos n) is =
     short_at n (omega (arith, leb-true n greatest (and_parts (leb least n) (leb n greatest) is).1))
-within_is_short (Between least greatest first) small loops few (negsuc n) is = absurd (false≢true is)
+within_is_short (Between least greatest first) small loops few (negsuc n) is =
+    absurd (false≢true is)
 within_is_short Source small loops few (pos n) is = short_at n (omega (arith, leb-true n loops is))
-within_is_short Source small loops few (negsuc n) is = short_below n (let e : n ≡ 2 = eqb-true n 2 is in omega arith)
-within_is_short LoopIndex small loops few (pos n) is = short_at n (omega (arith, ltb-true n loops is))
+within_is_short Source small loops few (negsuc n) is =
+    short_below n (let e : n ≡ 2 = eqb-true n 2 is in omega arith)
+within_is_short LoopIndex small loops few (pos n) is =
+    short_at n (omega (arith, ltb-true n loops is))
 within_is_short LoopIndex small loops few (negsuc n) is = absurd (false≢true is)
 
 -- what a control is set to is one
-pub in_range_is_short : (control : Control) (value : ℤ) (loops : ℕ) → loops ≤ 16 → IsTrue (is_in_range control value loops) → IsShort value
-in_range_is_short control value loops few is = within_is_short (control_row control).range (ranges_are_small control) loops few value is
+pub in_range_is_short : (control : Control) (value : ℤ) (loops : ℕ) → loops ≤ 16 →
+    IsTrue (is_in_range control value loops) → IsShort value
+in_range_is_short control value loops few is =
+    within_is_short (control_row control).range (ranges_are_small control) loops few value is
 
 -- it has few digits
-pub short_has_few_digits : (value : ℤ) → negsuc 2147483647 ≤ℤ value → value ≤ℤ pos 2147483647 → unsigned_abs value < 10 ^ 19
+pub short_has_few_digits : (value : ℤ) → negsuc 2147483647 ≤ℤ value → value ≤ℤ pos 2147483647 →
+    unsigned_abs value < 10 ^ 19
 short_has_few_digits (pos n) low high = omega (arith, ints, high)
 short_has_few_digits (negsuc n) low high = omega (arith, ints, low)

@@ -1,5 +1,6 @@
--- A text is a header, lines, and the line `end`. Each line ends with a line feed, and its words are parted by single
--- spaces: where two spaces stand together, or one at an end of the line, a word is empty.
+-- A text is a header, lines, and the line `end`. Each line ends with a line feed, and its words are
+-- parted by single spaces: where two spaces stand together, or one at an end of the line, a word is
+-- empty.
 -- "Texts" in docs/formats.md.
 use Rattle.std.specs.Prelude.{ℕ, ◌≡◌, ◌≢◌, ◌==◌, List, [], ◌∷◌, ◌++◌, codes}
 use Rattle.std.specs.List.{AllByRecursion, slice_split, join_with_byte}

@@ -1,6 +1,6 @@
--- A number is spelled by its decimal digits, at most 19 of them. Where there are two or more, the first isn't `0`.
--- A whole number below 0 is spelled by `-` and the number that it lies below 0. So each has one spelling, and `-0` is
--- none.
+-- A number is spelled by its decimal digits, at most 19 of them. Where there are two or more, the
+-- first isn't `0`. A whole number below 0 is spelled by `-` and the number that it lies below 0. So
+-- each has one spelling, and `-0` is none.
 -- "Numbers in texts" in docs/formats.md.
 use Rattle.std.specs.Prelude.{ℕ, ℤ, ◌≡◌, ◌<◌, ◌^◌, Bool, true, false, ◌&&◌, ◌||◌, not, ◌==◌, nat_le, List, [], ◌∷◌, length, unsigned_abs}
 use Rattle.std.specs.Str.{all_ascii_digits, bytes_eq}

@@ -24,7 +24,8 @@ pub fn is_integer(bytes: &[u8]) -> bool
 /// The number of 32 bits that the digits spell.
 fn at_least_zero(digits: &[u8]) -> Option<i32>
     ensures found { IfSome result (IsIntegerOf digits.now) }
-    ensures only { IfNone result ((number : ℕ) → number ≤ 2147483647 → ¬ IsIntegerOf digits.now (pos number)) }
+    ensures only { IfNone result ((number : ℕ) → number ≤ 2147483647 →
+        ¬ IsIntegerOf digits.now (pos number)) }
 {
     let size = read_numeral(digits)?;
     if size <= 2147483647 {
@@ -37,7 +38,8 @@ fn at_least_zero(digits: &[u8]) -> Option<i32>
 /// The number of 32 bits that `-` and the digits spell.
 fn below_zero(digits: &[u8]) -> Option<i32>
     ensures found { IfSome result (IsIntegerOf (45 ∷ digits.now)) }
-    ensures only { IfNone result ((number : ℕ) → number ≤ 2147483647 → ¬ IsIntegerOf (45 ∷ digits.now) (negsuc number)) }
+    ensures only { IfNone result ((number : ℕ) → number ≤ 2147483647 →
+        ¬ IsIntegerOf (45 ∷ digits.now) (negsuc number)) }
 {
     let size = read_numeral(digits)?;
     if 1 <= size && size <= 2147483648 {
@@ -50,7 +52,8 @@ fn below_zero(digits: &[u8]) -> Option<i32>
 /// The number of 32 bits that the bytes spell, or None where they spell none.
 pub fn read_integer(bytes: &[u8]) -> Option<i32>
     ensures found { IfSome result (IsIntegerOf bytes.now) }
-    ensures only { IfNone result ((number : ℤ) → negsuc 2147483647 ≤ℤ number → number ≤ℤ pos 2147483647 → ¬ IsIntegerOf bytes.now number) }
+    ensures only { IfNone result ((number : ℤ) → negsuc 2147483647 ≤ℤ number →
+        number ≤ℤ pos 2147483647 → ¬ IsIntegerOf bytes.now number) }
 {
     match bytes.strip_prefix(b"-") {
         Some(digits) => below_zero(digits),

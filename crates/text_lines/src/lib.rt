@@ -1,19 +1,21 @@
 //! What all text forms share: lines of words, numbers with one spelling, and the first fault.
 //!
-//! - A text is a header, lines, and the line `end`. `next_line` takes the first whole line off, `words_of` gives its
-//!   words: where two spaces stand together a word is empty.
-//! - A number has one spelling of at most 19 digits. `read_numeral` gives a number that isn't below 0, `read_integer` a
-//!   whole number of 32 bits; `is_numeral` and `is_integer` tell what looks like one.
-//! - `target_of` gives the target that a word spells, `number_of` a number up to a greatest one, and `behind` the words
-//!   behind a first one.
+//! - A text is a header, lines, and the line `end`. `next_line` takes the first whole line off,
+//!   `words_of` gives its words: where two spaces stand together a word is empty.
+//! - A number has one spelling of at most 19 digits. `read_numeral` gives a number that isn't below
+//!   0, `read_integer` a whole number of 32 bits; `is_numeral` and `is_integer` tell what looks
+//!   like one.
+//! - `target_of` gives the target that a word spells, `number_of` a number up to a greatest one,
+//!   and `behind` the words behind a first one.
 //! - `have_shapes` tells whether words look like those of a form, whatever they name.
-//! - What the first fault of a text is stands in the definitions alone: a form of text says how a line is spelled, what
-//!   may follow, where `end` is due and what is wrong with a line. Where a form is settled, a text has one reading:
-//!   one list of things, or one first fault.
+//! - What the first fault of a text is stands in the definitions alone: a form of text says how a
+//!   line is spelled, what may follow, where `end` is due and what is wrong with a line. Where a
+//!   form is settled, a text has one reading: one list of things, or one first fault.
 //! - No call takes memory.
 //!
-//! Begin with `line`, then `numeral`, `integer`, `word` and `shape`; `laws` has what holds of the definitions.
-//! The rules are "Texts" and "Numbers in texts" in docs/formats.md and "Faults of texts" in docs/rules.md.
+//! Begin with `line`, then `numeral`, `integer`, `word` and `shape`; `laws` has what holds of the
+//! definitions. The rules are "Texts" and "Numbers in texts" in docs/formats.md and "Faults of
+//! texts" in docs/rules.md.
 #![tactic(auto)]
 
 mod integer;

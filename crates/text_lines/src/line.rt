@@ -22,7 +22,8 @@ fn cut_at(bytes: &[u8], byte: u8) -> Option<(&[u8], &[u8])>
     None
 }
 
-/// The first whole line, without its line feed, and what stands behind it, or None where there is no line feed.
+/// The first whole line, without its line feed, and what stands behind it, or None where there is
+/// no line feed.
 pub fn next_line(bytes: &[u8]) -> Option<(&[u8], &[u8])>
     ensures found { IfSome result (λ parts. IsCutAt 10 bytes.now parts.0.now parts.1.now) }
     ensures only { IfNone result (Lacks 10 bytes.now) }
@@ -53,8 +54,8 @@ impl<'a> Words<'a> {
     }
 }
 
-/// The words of a line, or None where there are more than nine. An empty word stands where two spaces do, or a space
-/// at an end.
+/// The words of a line, or None where there are more than nine. An empty word stands where two
+/// spaces do, or a space at an end.
 pub fn words_of(line: &[u8]) -> Option<Words<'_>>
     ensures found { IfSome result (λ words. words ≡ words_in line.now) }
     ensures only { IfNone result (MOST_WORDS < length (words_in line.now)) }

@@ -25,7 +25,8 @@ fn are_digits(bytes: &[u8]) -> bool
     true
 }
 
-/// The bytes spell a number: digits alone, 19 at most, and the first isn't `0` where there are more.
+/// The bytes spell a number: digits alone, 19 at most, and the first isn't `0` where there are
+/// more.
 pub fn is_numeral(bytes: &[u8]) -> bool
     ensures { result ≡ is_numeral bytes.now }
 {

@@ -12,8 +12,10 @@ use sl_commands::Target;
 
 /// The target that a word spells.
 pub fn target_of(word: &[u8]) -> Option<Target>
-    ensures found { IfSome result (λ target. (word.now ≡ target_word target) × IsTrue (is_target 256 target)) }
-    ensures only { IfNone result ((target : Target) → IsTrue (is_target 256 target) → word.now ≢ target_word target) }
+    ensures found { IfSome result (λ target. (word.now ≡ target_word target)
+        × IsTrue (is_target 256 target)) }
+    ensures only { IfNone result ((target : Target) → IsTrue (is_target 256 target) →
+        word.now ≢ target_word target) }
 {
     let number = read_integer(word)?;
     Target::numbered(number as i64)
@@ -31,8 +33,10 @@ pub fn number_of(word: &[u8], most: u64) -> Option<u64>
 
 /// The words behind the first, where that is this one.
 pub fn behind<'a, 'b>(words: &'a [&'b [u8]], first: &[u8]) -> Option<&'a [&'b [u8]]>
-    ensures found { IfSome result (λ rest. map (λ w. w.now) words.now ≡ first.now ∷ map (λ w. w.now) rest.now) }
-    ensures only { IfNone result ((rest : List (List ℕ)) → map (λ w. w.now) words.now ≢ first.now ∷ rest) }
+    ensures found { IfSome result
+        (λ rest. map (λ w. w.now) words.now ≡ first.now ∷ map (λ w. w.now) rest.now) }
+    ensures only { IfNone result ((rest : List (List ℕ)) →
+        map (λ w. w.now) words.now ≢ first.now ∷ rest) }
 {
     let (word, rest) = words.split_first()?;
     if *word == first { Some(rest) } else { None }

@@ -27,7 +27,8 @@ fn tell_entries<W: Write>(
     }
 }
 
-/// Tells what a journal says, or its first fault. Where `again` is true it is also written again and compared.
+/// Tells what a journal says, or its first fault. Where `again` is true it is also written again
+/// and compared.
 pub fn tell_journal<W: Write>(
     out: &mut W,
     alloc: Global,

@@ -1,8 +1,10 @@
-//! Reads texts and tells what they say, or their first fault: one line of output for each line of input.
+//! Reads texts and tells what they say, or their first fault: one line of output for each line of
+//! input.
 //!
-//! A line is `journal LOOPS HEX`, `session - HEX` or `wav - HEX`, with the bytes in hexadecimal digits. A journal and a
-//! session that were read are written again and compared, and the frames of a WAV file are told. With the words `journal LOOPS FILE`, `session - FILE`
-//! or `wav - FILE` the program reads that file instead of standard input, and tells how many entries or frames it has.
+//! A line is `journal LOOPS HEX`, `session - HEX` or `wav - HEX`, with the bytes in hexadecimal
+//! digits. A journal and a session that were read are written again and compared, and the frames of
+//! a WAV file are told. With the words `journal LOOPS FILE`, `session - FILE` or `wav - FILE` the
+//! program reads that file instead of standard input, and tells how many entries or frames it has.
 #![tactic(auto)]
 
 mod bytes;
@@ -18,7 +20,8 @@ use std::alloc::Global;
 use std::io::{self, BufRead, BufReader, BufWriter, Write};
 use std::{env, fs};
 
-/// Tells what the bytes say in the form of this name. Where `again` is true, a text is also written again.
+/// Tells what the bytes say in the form of this name. Where `again` is true, a text is also written
+/// again.
 fn tell<W: Write>(
     out: &mut W,
     alloc: Global,

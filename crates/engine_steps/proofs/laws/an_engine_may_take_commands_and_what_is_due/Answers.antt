@@ -9,4 +9,5 @@ pub returns-clause-rest : goal.returns-clause-rest
 returns-clause-rest c = nothing_left_clears
 
 pub returns-clause-due : goal.returns-clause-due
-returns-clause-due c b s en e target outcome begin h due is = due_clears en e target outcome due is (waiting_apart b s e begin h)
+returns-clause-due c b s en e target outcome begin h due is =
+    due_clears en e target outcome due is (waiting_apart b s e begin h)

@@ -3,4 +3,5 @@ use Rattle.event_rings.proofs.tests.take_all.Given as goal
 
 abbrev pub invariant-loop : goal.invariant-loop
 invariant-loop g l =
-    (goal.iterator-loop g).can_next l.iterator' × (goal.iterator-loop g).is_finite l.iterator' × (l.taker.name ≡ l.fn.taker.name)
+    (goal.iterator-loop g).can_next l.iterator' × (goal.iterator-loop g).is_finite l.iterator'
+    × (l.taker.name ≡ l.fn.taker.name)

@@ -8,7 +8,8 @@ use Rattle.journal_text.proofs.EntryLemmas.{EntryHasWords, not_valid}
 use Rattle.journal_text.proofs.entry.entry_of.Goals as goal
 
 pub returns-in_default-clause-only : goal.returns-in_default-clause-only
-returns-in_default-clause-only c e has same = omega (arith, length-map c.args.words.now (λ w. w.now), ap length same, c.in_default.len_below)
+returns-in_default-clause-only c e has same =
+    omega (arith, length-map c.args.words.now (λ w. w.now), ap length same, c.in_default.len_below)
 
 pub returns-else-is_valid-clause-only : goal.returns-else-is_valid-clause-only
 returns-else-is_valid-clause-only c e has same =

@@ -9,7 +9,10 @@ pub returns-clause-entries : goal.returns-clause-entries
 returns-clause-entries c = one_journal
 
 pub returns-clause-fault : goal.returns-clause-fault
-returns-clause-fault c loops bytes line other kind kind_too few = fault_is_one (journal_form loops) (journals_are_settled loops few) bytes line other kind kind_too
+returns-clause-fault c loops bytes line other kind kind_too few = fault_is_one (journal_form loops)
+    (journals_are_settled loops few) bytes line other kind kind_too
 
 pub returns-clause-either : goal.returns-clause-either
-returns-clause-either c loops bytes entries line kind few is = text_has_no_fault (journal_form loops) (journals_are_settled loops few) bytes entries line kind (journal_is_text loops bytes entries is)
+returns-clause-either c loops bytes entries line kind few is =
+    text_has_no_fault (journal_form loops) (journals_are_settled loops few) bytes entries line kind
+    (journal_is_text loops bytes entries is)

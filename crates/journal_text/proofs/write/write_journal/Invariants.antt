@@ -7,4 +7,5 @@ use Rattle.journal_text.specs.Journals.{journal_text}
 use Rattle.journal_text.proofs.write.write_journal.Given as goal
 
 abbrev pub invariant-entries : goal.invariant-entries
-invariant-entries l = string_bytes l.out ++ lines_then entry_line (drop l.place l.entries) (end_word ++ (10 ∷ [])) ≡ journal_text l.entries
+invariant-entries l = string_bytes l.out ++ lines_then entry_line (drop l.place l.entries)
+    (end_word ++ (10 ∷ [])) ≡ journal_text l.entries

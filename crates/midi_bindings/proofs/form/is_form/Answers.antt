@@ -4,4 +4,6 @@ use Rattle.midi_bindings.proofs.FormLemmas.{short_has_no_form}
 use Rattle.midi_bindings.proofs.form.is_form.Goals as goal
 
 pub returns-in_default : goal.returns-in_default
-returns-in_default c = sym (short_has_no_form (map (λ w. w.now) c.args.words.now) (omega (arith, length-map c.args.words.now (λ w. w.now), c.in_default.len_below)))
+returns-in_default c =
+    sym (short_has_no_form (map (λ w. w.now) c.args.words.now)
+    (omega (arith, length-map c.args.words.now (λ w. w.now), c.in_default.len_below)))

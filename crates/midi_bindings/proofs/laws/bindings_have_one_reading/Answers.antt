@@ -9,7 +9,10 @@ pub returns-clause-bindings : goal.returns-clause-bindings
 returns-clause-bindings c = one_reading
 
 pub returns-clause-fault : goal.returns-clause-fault
-returns-clause-fault c loops bytes line other kind kind_too few = fault_is_one (bindings_form loops) (bindings_are_settled loops few) bytes line other kind kind_too
+returns-clause-fault c loops bytes line other kind kind_too few = fault_is_one (bindings_form loops)
+    (bindings_are_settled loops few) bytes line other kind kind_too
 
 pub returns-clause-either : goal.returns-clause-either
-returns-clause-either c loops bytes bindings line kind few is = text_has_no_fault (bindings_form loops) (bindings_are_settled loops few) bytes bindings line kind (bindings_are_text loops bytes bindings is)
+returns-clause-either c loops bytes bindings line kind few is =
+    text_has_no_fault (bindings_form loops) (bindings_are_settled loops few) bytes bindings line
+    kind (bindings_are_text loops bytes bindings is)

@@ -8,4 +8,5 @@ use Rattle.midi_bindings.specs.Lookups.{looked_up}
 use Rattle.midi_bindings.proofs.lookup.first_given.Given as goal
 
 abbrev pub invariant-lines : goal.invariant-lines
-invariant-lines l = (looked_up (drop l.place l.lines) l.event ≡ looked_up l.lines l.event) × AllByRecursion (λ binding. IsTrue (is_binding max_loops binding)) (drop l.place l.lines)
+invariant-lines l = (looked_up (drop l.place l.lines) l.event ≡ looked_up l.lines l.event)
+    × AllByRecursion (λ binding. IsTrue (is_binding max_loops binding)) (drop l.place l.lines)

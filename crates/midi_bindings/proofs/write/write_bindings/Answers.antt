@@ -8,6 +8,8 @@ use Rattle.midi_bindings.proofs.write.write_bindings.Goals as goal
 pub returns : goal.returns
 returns c =
     let done : length c.args.bindings.now ≤ c.bindings.place = search rules in
-    let rest = all_written (string_bytes c.bindings.out) c.args.bindings.now c.bindings.place (bindings_text c.args.bindings.now) (end_word ++ (10 ∷ [])) done c.bindings.invariant in
-    let added : string_bytes c.push_str.new.self ≡ string_bytes c.bindings.out ++ (end_word ++ (10 ∷ [])) = search rules in
+    let rest = all_written (string_bytes c.bindings.out) c.args.bindings.now c.bindings.place
+    (bindings_text c.args.bindings.now) (end_word ++ (10 ∷ [])) done c.bindings.invariant in
+    let added : string_bytes c.push_str.new.self ≡ string_bytes c.bindings.out
+    ++ (end_word ++ (10 ∷ [])) = search rules in
     added ∙ rest

@@ -7,4 +7,5 @@ use Rattle.midi_bindings.specs.Texts.{bindings_text}
 use Rattle.midi_bindings.proofs.write.write_bindings.Given as goal
 
 abbrev pub invariant-bindings : goal.invariant-bindings
-invariant-bindings l = string_bytes l.out ++ lines_then binding_line (drop l.place l.bindings) (end_word ++ (10 ∷ [])) ≡ bindings_text l.bindings
+invariant-bindings l = string_bytes l.out ++ lines_then binding_line (drop l.place l.bindings)
+    (end_word ++ (10 ∷ [])) ≡ bindings_text l.bindings

@@ -8,8 +8,11 @@ loop-k-preserved c = record {
   sums = grind (arith, common_steps);
   gain = grind (arith, common_steps);
   left = grind (arith, common_steps);
-  done = λ givers. done_more givers c.loop-k.k c.loop-k.sums c.args.sums.now c.with_frame-sum.result c.index-sums-k.result (omega arith) c.loop-k.invariant.left c.with_frame-sum.ensures.within (c.loop-k.invariant.done givers);
+  done = λ givers. done_more givers c.loop-k.k c.loop-k.sums c.args.sums.now c.with_frame-sum.result
+      c.index-sums-k.result (omega arith) c.loop-k.invariant.left c.with_frame-sum.ensures.within
+      (c.loop-k.invariant.done givers);
 }
 
 pub returns-clause-within : goal.returns-clause-within
-returns-clause-within c = λ givers all. done_all (givers + 1) c.loop-k.k c.loop-k.sums (omega arith) (c.loop-k.invariant.done givers all)
+returns-clause-within c = λ givers all. done_all (givers + 1) c.loop-k.k c.loop-k.sums (omega arith)
+    (c.loop-k.invariant.done givers all)

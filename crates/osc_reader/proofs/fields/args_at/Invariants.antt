@@ -4,4 +4,5 @@ use Rattle.osc_reader.proofs.ReadingLemmas.{with_args}
 use Rattle.osc_reader.proofs.fields.args_at.Given as goal
 
 abbrev pub invariant-tags : goal.invariant-tags
-invariant-tags l = with_args l.args.items (args_at (drop l.tag-index l.tags) l.end l.rest) ≡ args_at l.tags l.end l.bytes
+invariant-tags l = with_args l.args.items (args_at (drop l.tag-index l.tags) l.end l.rest) ≡ args_at
+    l.tags l.end l.bytes

@@ -11,7 +11,8 @@ decreases-add_part l = 2 * l.depth
 
 abbrev pub invariant-add_elements-elements : goal.invariant-add_elements-elements
 invariant-add_elements-elements l =
-    with_front l.out (elements_behind (part_at l.depth) l.end 0 l.rest) ≡ with_front l.fn.out (elements_behind (part_at l.depth) l.end 0 l.bytes)
+    with_front l.out (elements_behind (part_at l.depth) l.end 0 l.rest) ≡ with_front l.fn.out
+    (elements_behind (part_at l.depth) l.end 0 l.bytes)
 
 abbrev pub decreases-add_elements-elements : goal.decreases-add_elements-elements
 decreases-add_elements-elements l = length l.rest

@@ -9,4 +9,6 @@ pub returns-clause-found : goal.returns-clause-found
 returns-clause-found c = packet_found c.args.bytes.now c.packet_at.result c.packet_at.ensures
 
 pub returns-clause-only : goal.returns-clause-only
-returns-clause-only c = λ messages is. subst (λ (read : Result (List Message) PacketFault). Gives (λ given. given) c.packet_at.result read) (packet_again c.args.bytes.now messages is) c.packet_at.ensures
+returns-clause-only c =
+    λ messages is. subst (λ (read : Result (List Message) PacketFault). Gives (λ given. given)
+    c.packet_at.result read) (packet_again c.args.bytes.now messages is) c.packet_at.ensures

@@ -11,11 +11,14 @@ returns-in-Some-value_of-clause-found c =
     let fits : SFits w32 c.in-Some-value_of.value = search rules in
     let back = to_z-of_z w32 c.in-Some-value_of.value fits in
     let found = c.in-Some-value_of.ensures.found in
-    value_found c.args.line.now c.args.setting c.args.loops c.in-Some-value_of.value (to_z w32 (of_z w32 c.in-Some-value_of.value)) back
+    value_found c.args.line.now c.args.setting c.args.loops c.in-Some-value_of.value
+    (to_z w32 (of_z w32 c.in-Some-value_of.value)) back
     (sym (c.as_slice.ensures ∙ c.in-Some.ensures.found) ∙ found.0) found.1
 
 pub returns-then-is_form-clause-wrong : goal.returns-then-is_form-clause-wrong
 returns-then-is_form-clause-wrong c =
     let words = c.as_slice.ensures ∙ c.in-Some.ensures.found in
-    let again = c.as_slice-in-None.ensures ∙ c.in-Some.ensures.found in
-    (ap (is_form (Some c.args.setting)) (sym again) ∙ sym c.is_form.ensures ∙ c.if-is_form.true, no_value c.args.line.now _ c.args.setting c.args.loops words c.in-None.ensures.only)
+    let again = c.as_slice-in-None.ensures ∙ c.in-Some.ensures.found in (
+      ap (is_form (Some c.args.setting)) (sym again) ∙ sym c.is_form.ensures ∙ c.if-is_form.true,
+      no_value c.args.line.now _ c.args.setting c.args.loops words c.in-None.ensures.only,
+    )

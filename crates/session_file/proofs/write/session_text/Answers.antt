@@ -8,5 +8,10 @@ pub returns-in-Ok : goal.returns-in-Ok
 returns-in-Ok c =
     let items : c.into_bytes.result.items ≡ string_bytes c.in-Ok.text = search rules in
     items ∙ c.in-Ok.ensures
-    ∙ ap (λ (ss : List StripSettings). session_text (record { rate = c.settings.inside.rate; globals = c.settings.inside.globals; strips = ss })) c.as_slice-strips.ensures.value
+    ∙ ap (λ (ss : List StripSettings).
+    session_text (record {
+      rate = c.settings.inside.rate;
+      globals = c.settings.inside.globals;
+      strips = ss;
+    })) c.as_slice-strips.ensures.value
     ∙ ap session_text c.settings.view_is

@@ -6,4 +6,6 @@ use Rattle.session_file.specs.SessionLines.{line_text, loop_lines}
 use Rattle.session_file.proofs.write.write_strips.Given as goal
 
 abbrev pub invariant-strips : goal.invariant-strips
-invariant-strips l = string_bytes l.out ++ lines_then line_text (loop_lines l.index (drop l.index l.strips)) [] ≡ string_bytes l.fn.out ++ lines_then line_text (loop_lines 0 l.strips) []
+invariant-strips l =
+    string_bytes l.out ++ lines_then line_text (loop_lines l.index (drop l.index l.strips))
+    [] ≡ string_bytes l.fn.out ++ lines_then line_text (loop_lines 0 l.strips) []

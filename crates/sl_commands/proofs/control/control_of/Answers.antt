@@ -7,7 +7,8 @@ use Rattle.sl_commands.proofs.TableLemmas.{find_has_name, none_has_name, NoneHas
 use Rattle.sl_commands.proofs.control.control_of.Goals as goal
 
 -- what no control of the table has as its name, no control has
-each_control : (bytes : List ℕ) → NoneHasName control_name bytes controls → (x : Control) → bytes ≢ control_name x
+each_control : (bytes : List ℕ) → NoneHasName control_name bytes controls → (x : Control) →
+    bytes ≢ control_name x
 each_control bytes none Feedback = none.0
 each_control bytes none Wet = none.1.0
 each_control bytes none Round = none.1.1.0
@@ -31,12 +32,15 @@ each_control bytes none LongPress = none.1.1.1.1.1.1.1.1.1.1.1.1.1.1.1.1.1.1.1.0
 each_control bytes none Pulse = none.1.1.1.1.1.1.1.1.1.1.1.1.1.1.1.1.1.1.1.1.0
 
 -- the same of a search that finds nothing
-nothing_found : (bytes : List ℕ) (o : Option Control) → o ≡ find (has_control_name bytes) controls → IfNone o ((x : Control) → bytes ≢ control_name x)
-nothing_found bytes None is = each_control bytes (none_has_name control_name bytes controls (sym is))
+nothing_found : (bytes : List ℕ) (o : Option Control) → o ≡ find (has_control_name bytes) controls →
+    IfNone o ((x : Control) → bytes ≢ control_name x)
+nothing_found bytes None is =
+    each_control bytes (none_has_name control_name bytes controls (sym is))
 nothing_found bytes (Some x) is = tt
 
 pub returns-clause-found : goal.returns-clause-found
-returns-clause-found c = rw c.first_named.ensures (find_has_name control_name c.args.bytes.now controls)
+returns-clause-found c =
+    rw c.first_named.ensures (find_has_name control_name c.args.bytes.now controls)
 
 pub returns-clause-only : goal.returns-clause-only
 returns-clause-only c = nothing_found c.args.bytes.now _ c.first_named.ensures

@@ -27,7 +27,8 @@ each_verb bytes none UndoAll = none.1.1.1.1.1.1.1.1.1.1.1.1.1.1.1.0
 each_verb bytes none RedoAll = none.1.1.1.1.1.1.1.1.1.1.1.1.1.1.1.1.0
 
 -- the same of a search that finds nothing
-nothing_found : (bytes : List ℕ) (o : Option Verb) → o ≡ find (has_verb_name bytes) verbs → IfNone o ((x : Verb) → bytes ≢ verb_name x)
+nothing_found : (bytes : List ℕ) (o : Option Verb) → o ≡ find (has_verb_name bytes) verbs →
+    IfNone o ((x : Verb) → bytes ≢ verb_name x)
 nothing_found bytes None is = each_verb bytes (none_has_name verb_name bytes verbs (sym is))
 nothing_found bytes (Some x) is = tt
 

@@ -9,5 +9,9 @@ pub returns-clause-only : goal.returns-clause-only
 returns-clause-only c =
     let fits : SFits w32 c.in_ok-number.number = search rules in
     let fits_long : SFits w64 c.in_ok-number.number = search rules in
-    let value = rw (to_z-of_z w32 c.in_ok-number.number fits, to_z-of_z w64 c.in_ok-number.number fits_long) at c.numbered.ensures in
-    no_target c.args.word.now c.in_ok-number.number c.numbered.result c.in_ok-number.ensures.found value
+    let value = rw (
+      to_z-of_z w32 c.in_ok-number.number fits,
+      to_z-of_z w64 c.in_ok-number.number fits_long,
+    ) at c.numbered.ensures in
+    no_target c.args.word.now c.in_ok-number.number c.numbered.result c.in_ok-number.ensures.found
+    value

@@ -6,7 +6,8 @@ use Rattle.sl_commands.proofs.settings.Settings.with_defaults.Goals as goal
 
 pub invariant_of-result : goal.invariant_of-result
 invariant_of-result c =
-    let all : c.loop.counter ≡ c.args.loops = omega (arith, c.loop-test.false, c.loop.auto.counter-end) in
+    let all : c.loop.counter ≡ c.args.loops =
+    omega (arith, c.loop-test.false, c.loop.auto.counter-end) in
     are_default_settings c.args.rate c.args.loops _ _ c.default-2.ensures
     (c.loop.invariant ∙ ap (λ n. replicate n default_strip) all)
     c.requires.rate c.requires.loops
