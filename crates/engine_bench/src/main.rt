@@ -4,6 +4,7 @@
 //! ```text
 //! engine_bench playing LOOPS PERIOD TIMES
 //! engine_bench waiting LOOPS PERIOD TIMES
+//! engine_bench source LOOPS PERIOD TIMES
 //! engine_bench seams LOOPS PERIOD TIMES
 //! engine_bench one LOOPS PERIOD TIMES
 //! engine_bench all LOOPS PERIOD TIMES
@@ -43,7 +44,8 @@ fn timed(rt: &HostRuntime, words: &[String]) -> Option<()> {
     let times = number(times.as_str(), 1000)?;
     match kind.as_str() {
         "playing" => scenario::playing(rt, loops, period, times),
-        "waiting" => scenario::waiting(rt, loops, period, times),
+        "waiting" => scenario::waiting(rt, loops, period, times, "waiting", false),
+        "source" => scenario::waiting(rt, loops, period, times, "source", true),
         "seams" => scenario::over_seams(rt, loops, period, times),
         "one" => scenario::overdubbing(rt, loops, period, times, 1),
         "all" => scenario::overdubbing(rt, loops, period, times, loops),

@@ -22,13 +22,28 @@ pub fn playing(rt: &HostRuntime, loops: u8, period: u32, times: u32) -> Option<(
     told(rt, &session, "playing", best)
 }
 
-/// All loops play, and in the last one a verb waits for the first loop to come round.
-pub fn waiting(rt: &HostRuntime, loops: u8, period: u32, times: u32) -> Option<()>
+/// The first loop plays or overdubs, the others play, and in the last one a verb waits for the first loop to come round.
+/// Nothing is told of a single loop that overdubs: the verb that waits ends the overdub.
+pub fn waiting(
+    rt: &HostRuntime,
+    loops: u8,
+    period: u32,
+    times: u32,
+    name: &str,
+    overdubs: bool,
+) -> Option<()>
     requires some { 1 ≤ loops }
     requires few { loops ≤ 16 }
     requires period { period ≤ 8192 }
 {
+    if overdubs && loops < 2 {
+        return None;
+    }
     let mut session = Session::new(rt.alloc(), loops, period)?;
+    if overdubs {
+        session.hit(Target::One(0), Verb::Overdub);
+        session.play(FRAMES);
+    }
     let last = Target::One(loops - 1);
     session.take(Command::Set(last, Control::Quantize, 1));
     session.take(Command::SetGlobal(Control::SyncSource, 1));
@@ -39,7 +54,7 @@ pub fn waiting(rt: &HostRuntime, loops: u8, period: u32, times: u32) -> Option<(
         best = session.timed(rt, best, 18 * STRETCH, loops);
         session.play(FRAMES - 18 * STRETCH - period);
     }
-    told(rt, &session, "waiting", best)
+    told(rt, &session, name, best)
 }
 
 /// All loops play lists of 1,000 seams and more.

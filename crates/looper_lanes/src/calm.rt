@@ -10,11 +10,15 @@ use crate::lane::Lane;
 use quantise_sync::{SyncSetup, next_boundary};
 use sl_commands::{Face, Globals, Mode};
 
-/// A loop in this mode keeps time: it goes on by one place at each frame, whatever comes in.
-fn keeps_time(mode: Mode) -> bool
-    ensures { result ≡ keeps_time mode }
+/// A loop with this face keeps time: it goes on by one place at each frame, whatever comes in.
+fn keeps_time(face: &Face) -> bool
+    ensures { result ≡ keeps_time face.now }
 {
-    matches!(mode, Mode::Playing | Mode::Muted | Mode::OneShot)
+    match face.mode {
+        Mode::Playing | Mode::Muted | Mode::OneShot => true,
+        Mode::Overdubbing | Mode::Replacing | Mode::Substituting => 1 <= face.cycle,
+        _ => false,
+    }
 }
 
 /// The source of boundaries keeps time, where it is a loop.
@@ -25,7 +29,7 @@ fn source_keeps_time(faces: &[Face], source: i32) -> bool
         return true;
     }
     match faces.get(source as usize - 1) {
-        Some(face) => keeps_time(face.mode),
+        Some(face) => keeps_time(face),
         None => true,
     }
 }

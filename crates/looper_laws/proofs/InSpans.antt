@@ -3,4 +3,5 @@ pub mod Controls
 pub mod Waiting
 pub mod Sums
 pub mod Quiet
+pub mod Time
 pub mod Calm

@@ -1,24 +1,22 @@
 -- Where no verb waits no boundary acts, and none acts where none comes by faces that keep time.
-use Rattle.std.proofs.Common.{◌≡◌, ◌⊎◌, inl, inr, ℕ, zero, suc, ◌+◌, ◌-◌, ◌%◌, ◌/◌, ◌≤◌, ◌<◌, max, Bool, true, false, not, ◌||◌, List, [], ◌∷◌, length, map, Option, Some, None, option_map, refl, sym, ap, ap₂, ◌∙◌, subst, arith, cond, ℤ, pos, negsuc, add-zero}
+use Rattle.std.proofs.Common.{◌≡◌, ◌⊎◌, inl, inr, ℕ, zero, suc, ◌+◌, ◌-◌, ◌%◌, ◌/◌, ◌<◌, max, Bool, true, false, not, ◌||◌, List, [], ◌∷◌, length, map, Option, Some, None, option_map, refl, sym, ap, ap₂, ◌∙◌, subst, arith, cond, ℤ, pos, negsuc, add-zero}
 use Rattle.std.specs.Prelude.{⊤, IsTrue, IfSome, slice_get, ◌==◌}
 use Rattle.std.specs.List.{AllByRecursion}
 use Rattle.std.proofs.lemmas.Option.{slice_get-map}
 use Rattle.sl_base.specs.Sounds.{Sound}
-use Rattle.sl_commands.specs.declared.Mode.{Mode}
-use Rattle.sl_commands.specs.declared.Mode.TheVariants.{Off, WaitStart, Recording, Playing, Overdubbing, Multiplying, Inserting, Replacing, Muted, OneShot, Substituting, Paused}
 use Rattle.sl_commands.specs.declared.Verb.{Verb}
 use Rattle.sl_commands.specs.declared.Face.{Face}
 use Rattle.sl_commands.specs.declared.Globals.{Globals}
 use Rattle.looper_rules.specs.Room.{chunks_of}
-use Rattle.looper_rules.specs.Loop.{Controls, Deck, Loop, face_of, length_of}
+use Rattle.looper_rules.specs.Loop.{Controls, Loop}
 use Rattle.looper_rules.specs.Presses.{waiting_acts, waiting_acts_from}
-use Rattle.looper_rules.specs.Boundaries.{is_running, unit_of, source_at_unit, source_at_boundary, is_boundary}
-use Rattle.looper_rules.specs.LoopFrame.{wraps, wrapped_place, wrapped_mode, next_place, goes_on, frame_later}
-use Rattle.looper_rules.specs.FacesLater.{face_goes_on, face_later_in, face_later, face_behind, is_boundary_behind}
+use Rattle.looper_rules.specs.Boundaries.{unit_of, source_at_unit, is_boundary}
+use Rattle.looper_rules.specs.FacesLater.{face_later, face_behind, is_boundary_behind}
 use Rattle.looper_rules.specs.Looper.{Track, Looper, tape_of, face_on, faces_of, free_of, reach_of, swept, itself, on_loop}
-use Rattle.looper_rules.specs.Frame.{played_on, played, framed_from, at_boundary, at_boundaries}
+use Rattle.looper_rules.specs.Frame.{played_on, played, framed_from, at_boundary}
 use Rattle.looper_rules.specs.TrackSpans.{IsCalm}
 use Rattle.looper_laws.specs.Spans.{NoVerbWaits, keeps_time, KeepsTime, NoBoundaryWithin, IsClearFor}
+use Rattle.looper_laws.proofs.InSpans.Time.{IsAtTimeOf, keeps_runs, later_at_time}
 use Rattle.looper_laws.proofs.InSpans.Controls.{frame_controls}
 use Rattle.looper_laws.proofs.InSpans.Waiting.{frame_waiting}
 
@@ -76,111 +74,6 @@ calm_where_none_waits frame (x ∷ xs) l all = (
   calm_where_none_waits (frame + 1) xs (framed_from x l).looper (none_waits_on l.globals.fade_step x (free_of l.chunks l.tracks) l.tracks all),
 )
 
--- two faces that are at the same time: what boundaries see of them
-record IsAtTimeOf (a b : Face) : Type 0 where
-  keeps : keeps_time a.mode ≡ true
-  keeps_too : keeps_time b.mode ≡ true
-  pos : a.pos ≡ b.pos
-  backward : a.backward ≡ b.backward
-  length : a.length ≡ b.length
-  cycle : a.cycle ≡ b.cycle
-
-wrapped_keeps : (mode : Mode) → keeps_time mode ≡ true → keeps_time (wrapped_mode mode) ≡ true
-wrapped_keeps Playing keeps = refl
-wrapped_keeps Muted keeps = refl
-wrapped_keeps OneShot keeps = refl
-wrapped_keeps Off keeps = cc
-wrapped_keeps WaitStart keeps = cc
-wrapped_keeps Recording keeps = cc
-wrapped_keeps Overdubbing keeps = cc
-wrapped_keeps Multiplying keeps = cc
-wrapped_keeps Inserting keeps = cc
-wrapped_keeps Replacing keeps = cc
-wrapped_keeps Substituting keeps = cc
-wrapped_keeps Paused keeps = cc
-
-keeps_runs : (mode : Mode) → keeps_time mode ≡ true → is_running mode ≡ true
-keeps_runs Playing keeps = refl
-keeps_runs Muted keeps = refl
-keeps_runs OneShot keeps = refl
-keeps_runs Off keeps = cc
-keeps_runs WaitStart keeps = cc
-keeps_runs Recording keeps = cc
-keeps_runs Overdubbing keeps = cc
-keeps_runs Multiplying keeps = cc
-keeps_runs Inserting keeps = cc
-keeps_runs Replacing keeps = cc
-keeps_runs Substituting keeps = cc
-keeps_runs Paused keeps = cc
-
--- one place on they still are
-goes_on_at_time : (wrap : Bool) (l : Loop Sound) (b : Face) → IsAtTimeOf (face_of l) b → IsAtTimeOf (face_of (goes_on wrap l)) (face_goes_on wrap b)
-goes_on_at_time true l b h =
-    record {
-      keeps = wrapped_keeps l.deck.mode h.keeps;
-      keeps_too = wrapped_keeps b.mode h.keeps_too;
-      pos = ap₂ wrapped_place h.backward h.length;
-      backward = h.backward;
-      length = h.length;
-      cycle = h.cycle;
-    }
-goes_on_at_time false l b h =
-    record {
-      keeps = h.keeps;
-      keeps_too = h.keeps_too;
-      pos = ap₂ next_place h.backward h.pos;
-      backward = h.backward;
-      length = h.length;
-      cycle = h.cycle;
-    }
-
--- a loop in this mode
-abbrev with_mode : Mode → Loop Sound → Loop Sound
-with_mode mode l = record l { deck = record l.deck { mode = mode } }
-
--- a loop that keeps time goes one place on, whatever comes in
-plays_on : (mode : Mode) (x : Sound) (reach : ℕ) (l : Loop Sound) → keeps_time mode ≡ true →
-    frame_later x reach (with_mode mode l) ≡ goes_on (wraps l.deck.backward l.deck.pos (length_of l)) (with_mode mode l)
-plays_on Playing x reach l keeps = refl
-plays_on Muted x reach l keeps = refl
-plays_on OneShot x reach l keeps = refl
-plays_on Off x reach l keeps = cc
-plays_on WaitStart x reach l keeps = cc
-plays_on Recording x reach l keeps = cc
-plays_on Overdubbing x reach l keeps = cc
-plays_on Multiplying x reach l keeps = cc
-plays_on Inserting x reach l keeps = cc
-plays_on Replacing x reach l keeps = cc
-plays_on Substituting x reach l keeps = cc
-plays_on Paused x reach l keeps = cc
-
--- and so does its face
-face_plays_on : (mode : Mode) (b : Face) → keeps_time mode ≡ true → face_later_in mode b ≡ face_goes_on (wraps b.backward b.pos b.length) b
-face_plays_on Playing b keeps = refl
-face_plays_on Muted b keeps = refl
-face_plays_on OneShot b keeps = refl
-face_plays_on Off b keeps = cc
-face_plays_on WaitStart b keeps = cc
-face_plays_on Recording b keeps = cc
-face_plays_on Overdubbing b keeps = cc
-face_plays_on Multiplying b keeps = cc
-face_plays_on Inserting b keeps = cc
-face_plays_on Replacing b keeps = cc
-face_plays_on Substituting b keeps = cc
-face_plays_on Paused b keeps = cc
-
-same_wrap : (a b : Face) → IsAtTimeOf a b → wraps a.backward a.pos a.length ≡ wraps b.backward b.pos b.length
-same_wrap a b h = ap₂ (λ back place. wraps back place a.length) h.backward h.pos ∙ ap (wraps b.backward b.pos) h.length
-
--- one frame later they still are
-later_at_time : (x : Sound) (reach : ℕ) (l : Loop Sound) (b : Face) → IsAtTimeOf (face_of l) b → IsAtTimeOf (face_of (frame_later x reach l)) (face_later b)
-later_at_time x reach l b h =
-    let wrap = wraps b.backward b.pos b.length
-    in let now : frame_later x reach l ≡ goes_on wrap l =
-    plays_on l.deck.mode x reach l h.keeps ∙ ap (λ w. goes_on w l) (same_wrap (face_of l) b h)
-    in let then_ : face_later b ≡ face_goes_on wrap b = face_plays_on b.mode b h.keeps_too
-    in subst (λ m. IsAtTimeOf (face_of m) (face_later b)) (sym now) (subst (IsAtTimeOf (face_of (goes_on wrap l))) (sym then_) (goes_on_at_time wrap l b h))
-
 -- the same of faces that may be there
 IsSameTime : Option Face → Option Face → Type 0
 IsSameTime None None = ⊤
@@ -202,8 +95,8 @@ tracks_at_time step x (suc k) free (t ∷ ts) b h =
 -- whether a source is at a unit
 same_unit : (quantize : ℕ) (a b : Face) → IsAtTimeOf a b → source_at_unit quantize (Some a) ≡ source_at_unit quantize (Some b)
 same_unit quantize a b h =
-    let here = keeps_runs a.mode h.keeps
-    in let there = keeps_runs b.mode h.keeps_too
+    let here = keeps_runs a.mode a.cycle h.keeps
+    in let there = keeps_runs b.mode b.cycle h.keeps_too
     in let unit : unit_of quantize a ≡ unit_of quantize b =
     ap₂ (λ cycle length. cond (quantize == 1) cycle (cond (quantize == 2) (max 1 (cycle / 8)) length)) h.cycle h.length
     in ap₂ (λ r n. not r || n == 0) here (ap₂ (λ p u. p % u) h.pos unit) ∙ sym (ap (λ r. not r || b.pos % unit_of quantize b == 0) there)
@@ -303,7 +196,7 @@ calm_ahead frame count faces (x ∷ xs) l all time =
     )
 
 -- at the beginning of a span
-time_of : (face : Option Face) → IfSome face (λ f. IsTrue (keeps_time f.mode)) → IsSameTime face (option_map (face_behind 0) face)
+time_of : (face : Option Face) → IfSome face (λ f. IsTrue (keeps_time f)) → IsSameTime face (option_map (face_behind 0) face)
 unfolding IsSameTime
 time_of None keeps = tt
 time_of (Some face) keeps = record { keeps = keeps; keeps_too = keeps; pos = refl; backward = refl; length = refl; cycle = refl }

@@ -1,20 +1,19 @@
 -- A span of quiet frames may be played one loop after another.
-use Rattle.std.proofs.Common.{◌≡◌, ℕ, zero, suc, ◌+◌, ◌-◌, List, [], ◌∷◌, ◌++◌, length, map, replicate, refl, sym, ap, ap₂, ◌∙◌, subst, arith}
+use Rattle.std.proofs.Common.{◌≡◌, ℕ, ◌+◌, ◌-◌, List, [], ◌∷◌, length, map, replicate, refl, sym, ap, ap₂, ◌∙◌, subst}
 use Rattle.std.specs.List.{AllByRecursion}
 use Rattle.std.proofs.lemmas.Simd.{map-map}
 use Rattle.sl_base.specs.Sounds.{Sound, silence, summed, clamped_sound, scaled_sound}
 use Rattle.looper_rules.specs.Room.{chunks_of}
 use Rattle.looper_rules.specs.Loop.{Loop}
-use Rattle.looper_rules.specs.LoopFrame.{ready, heard, after}
+use Rattle.looper_rules.specs.LoopFrame.{ready, heard}
 use Rattle.looper_rules.specs.Looper.{Track, Looper, tape_of, free_of, reach_of, swept}
 use Rattle.looper_rules.specs.Gains.{gain_after, sum_of, output_of}
 use Rattle.looper_rules.specs.Frame.{Framed, framed_with, Played, given_by, played_on, played, played_ready, all_played, framed, framed_from, at_boundaries}
 use Rattle.looper_rules.specs.Run.{RunSoFar, begun}
-use Rattle.looper_rules.specs.LoopFrame.{frame_later}
 use Rattle.looper_rules.specs.GainSpans.{added, added_all, scaled_over, gain_over}
 use Rattle.looper_rules.specs.TrackSpans.{PlayedOver, track_over, given_over, played_over, all_over, given_of, track_of, IsCalm}
-use Rattle.looper_rules.specs.TrackSpans.{Spanned, sums_of, spanned, spanned_from, spanned_with}
-use Rattle.looper_rules.specs.LoopSpans.{IsQuietFrame, AreQuiet, AreQuietBehind}
+use Rattle.looper_rules.specs.TrackSpans.{sums_of, spanned, spanned_with}
+use Rattle.looper_rules.specs.LoopSpans.{IsQuietFrame, AreQuiet}
 use Rattle.looper_laws.specs.Spans.{IsQuietFor, IsQuietBehindFor, as_frames}
 use Rattle.looper_laws.proofs.InSpans.Sums.{summed_assoc, summed_silence, silence_summed}
 

@@ -1,14 +1,14 @@
 -- A span of one frame is a frame.
-use Rattle.std.proofs.Common.{◌≡◌, ℕ, zero, suc, ◌+◌, ◌-◌, List, [], ◌∷◌, length, map, refl, sym, ap, ap₂, ◌∙◌, ℤ, pos}
+use Rattle.std.proofs.Common.{◌≡◌, ℕ, ◌-◌, List, [], ◌∷◌, map, refl, sym, ap, ap₂, ◌∙◌, ℤ}
 use Rattle.std.proofs.Math.IntN.{+ℤ_assoc, +ℤ_idl, +ℤ_idr}
 use Rattle.sl_base.specs.Sounds.{Sound, silence, summed, clamped_sound, scaled_sound}
 use Rattle.looper_rules.specs.Room.{chunks_of}
 use Rattle.looper_rules.specs.Looper.{Track, Looper, tape_of, free_of, reach_of, swept}
-use Rattle.looper_rules.specs.Gains.{gain_after, sum_of, output_of}
-use Rattle.looper_rules.specs.Frame.{Played, given_by, played_on, played, all_played, framed, framed_from, at_boundaries}
+use Rattle.looper_rules.specs.Gains.{gain_after, sum_of}
+use Rattle.looper_rules.specs.Frame.{given_by, played_on, played, all_played, framed_from}
 use Rattle.looper_rules.specs.GainSpans.{added, added_all}
-use Rattle.looper_rules.specs.TrackSpans.{PlayedOver, all_over, given_of, track_of}
-use Rattle.looper_rules.specs.TrackSpans.{Spanned, sums_of, spanned, spanned_from, spanned_with}
+use Rattle.looper_rules.specs.TrackSpans.{all_over, given_of, track_of}
+use Rattle.looper_rules.specs.TrackSpans.{Spanned, sums_of, spanned_from}
 
 sound_same : (a b c d : ℤ) → a ≡ c → b ≡ d → record { left = a; right = b } ≡ (let s : Sound = record { left = c; right = d } in s)
 sound_same a b c d e f = ap₂ (λ x y. let s : Sound = record { left = x; right = y } in s) e f

@@ -21,7 +21,7 @@ closing_cycle-none : (cycle len : ℕ) → cycle ≡ 0 → closing_cycle cycle l
 closing_cycle-none cycle len none = Prim.grind (arith, nat_tests)
 
 -- and its own otherwise
-closing_cycle-some : (cycle len : ℕ) → 1 ≤ cycle → closing_cycle cycle len ≡ cycle
+pub closing_cycle-some : (cycle len : ℕ) → 1 ≤ cycle → closing_cycle cycle len ≡ cycle
 closing_cycle-some cycle len some = Prim.grind (arith, nat_tests)
 
 -- a recorded layer that isn't empty is closed by closing it
