@@ -1,5 +1,6 @@
--- The saves that no release has answered are some of the saves of the run, in the order in which they were made. They are of
--- different loops, and a session's is alone: so a release answers one save at most.
+-- The saves that no release has answered are some of the saves of the run, in the order in which
+-- they were made. They are of different loops, and a session's is alone: so a release answers one
+-- save at most.
 -- "Saves" in docs/rules.md.
 use Rattle.std.specs.Prelude.{◌≡◌, ◌≢◌, ◌⊎◌, ⊤, List, [], ◌∷◌}
 use Rattle.std.specs.List.{AllByRecursion}
@@ -15,7 +16,8 @@ AreApart _ _ = ⊥
 -- each two of these saves do
 abbrev pub AreAllApart : List Save → Type 0
 AreAllApart [] = ⊤
-AreAllApart (s ∷ saves) = AllByRecursion (λ (other : Save). AreApart s.target other.target) saves × AreAllApart saves
+AreAllApart (s ∷ saves) = AllByRecursion (λ (other : Save). AreApart s.target other.target) saves
+    × AreAllApart saves
 
 -- the first are some of the second, in their order
 abbrev pub AreSomeOf : List Save → List Save → Type 0

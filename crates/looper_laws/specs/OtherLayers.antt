@@ -1,8 +1,10 @@
--- A frame or a command changes at most the current layer of a loop. All other layers stay as they are: those below the
--- current one, and the redo layers. They stand in a row by age: the redo layers, the last one first, the current layer,
--- and those below it. Undo and redo go along this row. Closing an empty Recording takes the current layer out of it.
--- An opening puts a new layer on the current one, and drops the redo layers, all of them.
--- A frame outside a writing mode keeps every list, and so does one that ends WaitStart, but for the layer that it opens.
+-- A frame or a command changes at most the current layer of a loop. All other layers stay as they
+-- are: those below the current one, and the redo layers. They stand in a row by age: the redo
+-- layers, the last one first, the current layer, and those below it. Undo and redo go along this
+-- row. Closing an empty Recording takes the current layer out of it. An opening puts a new layer on
+-- the current one, and drops the redo layers, all of them.
+-- A frame outside a writing mode keeps every list, and so does one that ends WaitStart, but for the
+-- layer that it opens.
 -- "Layers" and "History: undo and redo" in docs/rules.md.
 use Rattle.std.specs.Prelude.{◌≡◌, ◌⊎◌, ◌+◌, ◌≤◌, min, ⊤, List, [], ◌∷◌, ◌++◌, length}
 use Rattle.sl_base.specs.Limits.{max_value}
@@ -26,7 +28,8 @@ pub record RowStays {A : Type 0} (old new : Stack A) : Type 0 where
   pub at_most_one : length current ≤ min 1 (length old.layers)
   pub row : row_of new ≡ in_a_row old.redo (current ++ without_current old.layers)
 
--- a new layer stands on those of before, of which the current one may have changed or gone, and no redo layer is left
+-- a new layer stands on those of before, of which the current one may have changed or gone, and no
+-- redo layer is left
 pub record StaysBelowNew {A : Type 0} (old new : Stack A) : Type 0 where
   pub newest : Layer A
   pub current : List (Layer A)

@@ -1,6 +1,6 @@
--- An entry stands in a run at its frame, or behind the last frame where that comes first. There it meets the looper that
--- the entries before it left, over the frames before its own. What it gives there, and all that comes before it, stays
--- whatever follows.
+-- An entry stands in a run at its frame, or behind the last frame where that comes first. There it
+-- meets the looper that the entries before it left, over the frames before its own. What it gives
+-- there, and all that comes before it, stays whatever follows.
 -- "The run" in docs/rules.md.
 use Rattle.std.specs.Prelude.{◌≡◌, ℕ, min, List, ◌∷◌, ◌++◌, length, take, drop, Option, Some, option_to_list}
 use Rattle.sl_base.specs.Sounds.{Sound}
@@ -40,14 +40,17 @@ given_then answer made next =
       looper = next.looper;
     }
 
--- the run of the entries before an entry, what it gave to the looper that it met, and the run of those behind it
+-- the run of the entries before an entry, what it gave to the looper that it met, and the run of
+-- those behind it
 abbrev pub run_around : List Entry → Entry → List Entry → List Sound → Looper → Ran
 run_around before e after input l =
     let there = met before e input l in
-    joined (run_before before e input l) (given_then (reply e there) (save e there) (run_behind before e after input l))
+    joined (run_before before e input l)
+    (given_then (reply e there) (save e there) (run_behind before e after input l))
 
 -- one of a run's entries gives this to the looper that it meets
-pub record ComesWithEntry {X : Type 0} (given : Entry → Looper → Option X) (es : List Entry) (input : List Sound) (l : Looper) (x : X) : Type 0 where
+pub record ComesWithEntry {X : Type 0} (given : Entry → Looper → Option X) (es : List Entry)
+    (input : List Sound) (l : Looper) (x : X) : Type 0 where
   pub before : List Entry
   pub entry : Entry
   pub after : List Entry

@@ -1,5 +1,6 @@
--- A get asks for the value of a control, and a save for the end of a loop's save or of a session's. What is asked is known
--- by the entry's sender, its seq and what it asks for, and a reply tells in the same way what it answers.
+-- A get asks for the value of a control, and a save for the end of a loop's save or of a session's.
+-- What is asked is known by the entry's sender, its seq and what it asks for, and a reply tells in
+-- the same way what it answers.
 -- "Entries and replies" in docs/rules.md.
 use Rattle.std.specs.Prelude.{ℕ, ◌<◌, Bool, true, false, ◌&&◌, ◌==◌, List, [], ◌∷◌, ◌++◌, length, filter, filter_map, Contains, Option, Some, None, option_map}
 use Rattle.sl_commands.specs.declared.Command.{Command}
@@ -45,7 +46,8 @@ abbrev pub answered : Reply → Question
 answered r = record { sender = r.sender; seq = r.seq; what = r.what }
 
 -- a reply of a run comes with one of its entries, and answers this one or one before it
-pub record AnswersInTime (es : List Entry) (input : List Sound) (l : Looper) (r : Reply) : Type 0 where
+pub record AnswersInTime (es : List Entry) (input : List Sound) (l : Looper)
+    (r : Reply) : Type 0 where
   pub comes : ComesWithEntry reply es input l r
   pub asked : Contains (questions (comes.before ++ comes.entry ∷ [])) (answered r)
 

@@ -1,9 +1,10 @@
--- A span of frames is quiet behind its first frame where no loop takes a chunk there or depends on what it reaches. It is
--- calm there where no boundary acts: because no verb waits, or because the source of boundaries keeps time and no
--- boundary comes by the faces of the span's beginning.
--- A loop keeps time in Playing, Muted and OneShot, and where its cycle is at least 1 also in Overdubbing, Replacing and
--- Substituting: whatever comes in, it goes on by one place at each frame. A frame that is written takes the place of
--- another, and where it doesn't fit the layer closes, which leaves place, direction, length and such a cycle.
+-- A span of frames is quiet behind its first frame where no loop takes a chunk there or depends on
+-- what it reaches. It is calm there where no boundary acts: because no verb waits, or because the
+-- source of boundaries keeps time and no boundary comes by the faces of the span's beginning.
+-- A loop keeps time in Playing, Muted and OneShot, and where its cycle is at least 1 also in
+-- Overdubbing, Replacing and Substituting: whatever comes in, it goes on by one place at each
+-- frame. A frame that is written takes the place of another, and where it doesn't fit the layer
+-- closes, which leaves place, direction, length and such a cycle.
 -- "One frame of the looper" and "Boundaries" in docs/rules.md.
 use Rattle.std.specs.Prelude.{◌≡◌, ◌≤◌, ◌⊎◌, ⊤, ℕ, suc, ℤ, pos, Bool, true, false, IsTrue, List, [], None, IfSome, slice_get, nat_le}
 use Rattle.sl_base.specs.Sounds.{Sound}
@@ -51,11 +52,14 @@ KeepsTime _ faces = ⊤
 -- no boundary comes for this quantize in so many frames behind this one
 abbrev pub NoBoundaryWithin : Globals → ℕ → List Face → ℕ → ℕ → Type 0
 NoBoundaryWithin g frame faces count quantize =
-    (frames : ℕ) → 1 ≤ frames → frames ≤ count → is_boundary_behind g.sync_source quantize g.pulse frame faces frames ≡ false
+    (frames : ℕ) → 1 ≤ frames → frames ≤ count →
+    is_boundary_behind g.sync_source quantize g.pulse frame faces frames ≡ false
 
 -- no verb waits on a track, or no boundary comes for it
-pub record IsClearFor (g : Globals) (frame : ℕ) (faces : List Face) (count : ℕ) (t : Track) : Type 0 where
-  pub clear : (t.loop.deck.waiting ≡ None) ⊎ NoBoundaryWithin g frame faces count t.loop.controls.quantize
+pub record IsClearFor (g : Globals) (frame : ℕ) (faces : List Face) (count : ℕ)
+    (t : Track) : Type 0 where
+  pub clear : (t.loop.deck.waiting ≡ None)
+      ⊎ NoBoundaryWithin g frame faces count t.loop.controls.quantize
 
 -- what a span gives and leaves, as what frames do with no entry among them
 abbrev pub as_frames : Spanned → RunSoFar

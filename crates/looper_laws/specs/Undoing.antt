@@ -1,10 +1,11 @@
--- A loop is opened by `record` with an empty layer, and by the other writing verbs with a copy of its list (forward alone
--- by multiply and insert), once an open layer is closed. The layer
--- stays open through frames after which the mode is still a writing one, through saves, and through whatever leaves mode
--- and layers as they are: sets and gets, releases, presses, a verb that begins to wait, a turn of the direction.
--- Undo closes an open layer before it moves it: it has its list still, cut to pos frames where a Multiplying has gone beyond
--- its base, and its cycle, or its length where it had none; no cell is fresh any more, base and base seams are gone, it
--- ends at the tape, and it has the seams that it had.
+-- A loop is opened by `record` with an empty layer, and by the other writing verbs with a copy of
+-- its list (forward alone by multiply and insert), once an open layer is closed. The layer stays
+-- open through frames after which the mode is still a writing one, through saves, and through
+-- whatever leaves mode and layers as they are: sets and gets, releases, presses, a verb that begins
+-- to wait, a turn of the direction. Undo closes an open layer before it moves it: it has its list
+-- still, cut to pos frames where a Multiplying has gone beyond its base, and its cycle, or its
+-- length where it had none; no cell is fresh any more, base and base seams are gone, it ends at the
+-- tape, and it has the seams that it had.
 -- "Opening" and "History: undo and redo" in docs/rules.md.
 use Rattle.std.specs.Prelude.{◌≡◌, ℕ, Bool, false, IsTrue, List, [], ◌∷◌, length, Option, Some, None}
 use Rattle.sl_base.specs.Sounds.{Sound}
@@ -32,14 +33,17 @@ opens_as _ _ = None
 -- the loop was opened, for `record` or for the writing verb of a mode
 pub data IsOpenedFrom (before : Loop Sound) : Loop Sound → Type 0 where
   for_record : IsOpenedFrom before (records Ok before)
-  for_mode : (mode : Mode) → IsTrue (is_writing mode) → IsOpenedFrom before (layers_on Ok mode before)
+  for_mode : (mode : Mode) → IsTrue (is_writing mode) →
+      IsOpenedFrom before (layers_on Ok mode before)
 
 -- the layer that is open in the first loop is still open in the second
 pub data StaysOpen (first : Loop Sound) : Loop Sound → Type 0 where
   at_once : StaysOpen first first
   through_frame : (x : Sound) → (reach : ℕ) → (now : Loop Sound) → StaysOpen first now →
-      IsTrue (is_writing (frame_later x reach now).deck.mode) → StaysOpen first (frame_later x reach now)
-  through_save : (now : Loop Sound) → StaysOpen first now → StaysOpen first (with_stack (pinned now.stack) now)
+      IsTrue (is_writing (frame_later x reach now).deck.mode) →
+      StaysOpen first (frame_later x reach now)
+  through_save : (now : Loop Sound) → StaysOpen first now →
+      StaysOpen first (with_stack (pinned now.stack) now)
   aside : (now next : Loop Sound) → StaysOpen first now →
       next.deck.mode ≡ now.deck.mode → next.stack.layers ≡ now.stack.layers → StaysOpen first next
 
@@ -62,7 +66,8 @@ pub record IsClosedOn (cut : Option ℕ) (tape : ℕ) (was now : Layer Sound) : 
   pub end : now.end ≡ tape
   pub seams : now.seams ≡ was.seams
 
--- the current one of these layers, cut there and closed on a tape of this length, stands on the others
+-- the current one of these layers, cut there and closed on a tape of this length, stands on the
+-- others
 pub record StandsClosed (cut : Option ℕ) (tape : ℕ) (was now : List (Layer Sound)) : Type 0 where
   pub opened : Layer Sound
   pub closed : Layer Sound

@@ -17,22 +17,25 @@ ghost use Rattle.looper_laws.specs.Places.{run_before, met, run_behind, ComesWit
 ghost use Rattle.looper_laws.specs.Questions.{SelectsALoop};
 ghost use Rattle.looper_rules.specs.Pins.{pins_of, pin_for, PinsStay, PinsStayOrGo, IsNoRelease};
 
-/// The saves of a run are those before an entry, what the entry saves of the looper that it meets, and those behind it. So
-/// each save comes with an entry, and is what this one saves.
+/// The saves of a run are those before an entry, what the entry saves of the looper that it meets,
+/// and those behind it. So each save comes with an entry, and is what this one saves.
 pub fn saves_are_those_at_their_entries()
-    ensures made { (before : List Entry) → (e : Entry) → (after : List Entry) → (input : List Sound) → (l : Looper) →
+    ensures made { (before : List Entry) → (e : Entry) → (after : List Entry) →
+        (input : List Sound) → (l : Looper) →
         FramesNeverFall 0 (before ++ e ∷ after) →
         (run (before ++ e ∷ after) input l).saves
         ≡ (run_before before e input l).saves
-        ++ (option_to_list (save e (met before e input l)) ++ (run_behind before e after input l).saves) }
+        ++ (option_to_list (save e (met before e input l))
+        ++ (run_behind before e after input l).saves) }
     ensures comes { (es : List Entry) → (input : List Sound) → (l : Looper) → FramesNeverFall 0 es →
         All (ComesWithEntry save es input l) (run es input l).saves }
 {}
 
-/// What an entry saves of a looper: of a loop its list, of a session all lists, with the number, the target, the name and
-/// the settings at that moment.
+/// What an entry saves of a looper: of a loop its list, of a session all lists, with the number,
+/// the target, the name and the settings at that moment.
 pub fn a_save_is_what_its_entry_met()
-    ensures loop_save { (e : Entry) → (l : Looper) → (s : Save) → (target : Target) → (name : List ℕ) →
+    ensures loop_save { (e : Entry) → (l : Looper) → (s : Save) → (target : Target) →
+        (name : List ℕ) →
         e.command ≡ SaveLoop target name → save e l ≡ Some s →
         (t : Track) × (track_of target l ≡ Some t) × (s ≡ loop_save target name l t) }
     ensures session_save { (e : Entry) → (l : Looper) → (s : Save) → (name : List ℕ) →
@@ -42,8 +45,8 @@ pub fn a_save_is_what_its_entry_met()
         ⊎ ((name : List ℕ) × (e.command ≡ SaveSession name)) }
 {}
 
-/// No later frame and no later entry changes a save: a longer run begins with the saves of the shorter one, and with those
-/// of its own first frames.
+/// No later frame and no later entry changes a save: a longer run begins with the saves of the
+/// shorter one, and with those of its own first frames.
 pub fn no_save_changes_later()
     ensures kept { (first next : List Entry) → (xs ys : List Sound) → (l : Looper) →
         All (λ e. e.frame ≤ length xs) first → All (λ e. length xs ≤ e.frame) next →
@@ -52,7 +55,8 @@ pub fn no_save_changes_later()
         BeginsWith (run_from frame es (xs ++ ys) l).saves (begun frame es xs l).saves }
 {}
 
-/// The saves of a run are numbered in order, from how many there were, and the last looper tells how many there are then.
+/// The saves of a run are numbered in order, from how many there were, and the last looper tells
+/// how many there are then.
 pub fn saves_are_numbered_in_order()
     ensures numbers { (es : List Entry) → (input : List Sound) → (l : Looper) → SelectsALoop l →
         let saves = (run es input l).saves in
@@ -61,11 +65,13 @@ pub fn saves_are_numbered_in_order()
         (run es input l).looper.saves ≡ l.saves + length (run es input l).saves }
 {}
 
-/// A save that is made pins its loops with the lists that it saves. No frame and no entry changes a pin that stands, until
-/// a release takes it away.
+/// A save that is made pins its loops with the lists that it saves. No frame and no entry changes a
+/// pin that stands, until a release takes it away.
 pub fn a_pin_holds_its_list_until_the_release()
-    ensures loop_save { (frame : ℕ) → (e : Entry) → (l : Looper) → (s : Save) → (target : Target) → (name : List ℕ) →
-        (t : Track) → e.command ≡ SaveLoop target name → save e l ≡ Some s → track_of target l ≡ Some t →
+    ensures loop_save { (frame : ℕ) → (e : Entry) → (l : Looper) → (s : Save) → (target : Target) →
+        (name : List ℕ) →
+        (t : Track) → e.command ≡ SaveLoop target name → save e l ≡ Some s →
+        track_of target l ≡ Some t →
         slice_get (pins_of (applied frame e l)) (index_of target l.globals.selected_loop_num)
         ≡ Some (Some (pin_for t)) }
     ensures session_save { (frame : ℕ) → (e : Entry) → (l : Looper) → (s : Save) → (name : List ℕ) →

@@ -12,11 +12,13 @@ use Rattle.looper_rules.specs.States.{HasCurrent, IsOpenOver, InMode, IsLoop}
 use Rattle.quantise_sync.specs.Distances.{is_placed_in, IsPlacedWhereRunning}
 
 -- the base of an open layer isn't empty
-base_is_some : {A : Type 0} (layers : List (Layer A)) → HasCurrent IsOpenOver layers → 0 < current_base_length layers
+base_is_some : {A : Type 0} (layers : List (Layer A)) → HasCurrent IsOpenOver layers →
+    0 < current_base_length layers
 base_is_some [] h = absurd h
 base_is_some (l ∷ ls) h = let some = h.0.base_not_empty in omega arith
 
-placed_in : {A : Type 0} (mode : Mode) (l : Loop A) → InMode mode l.stack.layers l.stack.redo l.deck.pos l.deck.backward → IsTrue (is_running mode) → is_placed_in mode (face_of l) ≡ true
+placed_in : {A : Type 0} (mode : Mode) (l : Loop A) → InMode mode l.stack.layers l.stack.redo
+    l.deck.pos l.deck.backward → IsTrue (is_running mode) → is_placed_in mode (face_of l) ≡ true
 placed_in Playing l h runs = lt-ltb l.deck.pos (current_length l.stack.layers) h.0.1
 placed_in Muted l h runs = lt-ltb l.deck.pos (current_length l.stack.layers) h.0.1
 placed_in OneShot l h runs = lt-ltb l.deck.pos (current_length l.stack.layers) h.0.1
@@ -25,7 +27,8 @@ placed_in Replacing l h runs = lt-ltb l.deck.pos (current_length l.stack.layers)
 placed_in Substituting l h runs = lt-ltb l.deck.pos (current_length l.stack.layers) h.2
 placed_in Inserting l h runs = lt-ltb l.deck.pos (current_length l.stack.layers) h.0.2
 placed_in Multiplying l h runs =
-    and_from _ _ (le-leb l.deck.pos (current_length l.stack.layers) h.2) (lt-ltb 0 (current_base_length l.stack.layers) (base_is_some l.stack.layers h.0))
+    and_from _ _ (le-leb l.deck.pos (current_length l.stack.layers) h.2)
+    (lt-ltb 0 (current_base_length l.stack.layers) (base_is_some l.stack.layers h.0))
 placed_in Off l h runs = cc
 placed_in WaitStart l h runs = cc
 placed_in Recording l h runs = cc

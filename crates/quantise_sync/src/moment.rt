@@ -66,7 +66,8 @@ fn loop_at_unit(faces: &[Face], index: usize, quantize: u8) -> bool
 
 /// Whether the source is at a boundary.
 fn source_at_boundary(faces: &[Face], setup: &SyncSetup) -> bool
-    ensures { result ≡ source_at_boundary setup.now.source setup.now.quantize setup.now.pulse setup.now.frame faces.now }
+    ensures { result ≡ source_at_boundary setup.now.source setup.now.quantize setup.now.pulse
+        setup.now.frame faces.now }
 {
     if setup.source < 0 {
         is_multiple(setup.frame, setup.pulse)
@@ -79,7 +80,8 @@ fn source_at_boundary(faces: &[Face], setup: &SyncSetup) -> bool
 
 /// Whether this frame is a boundary, by the faces of all loops.
 pub fn boundary(faces: &[Face], setup: &SyncSetup) -> bool
-    ensures { result ≡ is_boundary setup.now.source setup.now.quantize setup.now.pulse setup.now.frame faces.now }
+    ensures { result ≡ is_boundary setup.now.source setup.now.quantize setup.now.pulse
+        setup.now.frame faces.now }
 {
     setup.quantize == 0 || source_at_boundary(faces, setup)
 }

@@ -124,7 +124,8 @@ fn frames_to_pulse(pulse: u32, frame: u64) -> Option<u32>
 
 /// From this frame to the source's next boundary.
 fn frames_to_boundary(faces: &[Face], setup: &SyncSetup) -> Option<u32>
-    ensures { result ≡ frames_to_boundary setup.now.source setup.now.quantize setup.now.pulse setup.now.frame faces.now }
+    ensures { result ≡ frames_to_boundary setup.now.source setup.now.quantize setup.now.pulse
+        setup.now.frame faces.now }
 {
     if setup.source < 0 {
         frames_to_pulse(setup.pulse, setup.frame)
@@ -135,16 +136,18 @@ fn frames_to_boundary(faces: &[Face], setup: &SyncSetup) -> Option<u32>
     }
 }
 
-/// The least number of frames behind which `boundary` holds, 0 where it holds now, while the faces go on frame by frame
-/// with no layer closing; `within` where there is none up to there.
+/// The least number of frames behind which `boundary` holds, 0 where it holds now, while the faces
+/// go on frame by frame with no layer closing; `within` where there is none up to there.
 pub fn next_boundary(faces: &[Face], setup: &SyncSetup, within: u32) -> u32
     ensures within { result ≤ within }
     ensures before { (frames : ℕ) → frames < result →
-        is_boundary_behind setup.now.source setup.now.quantize setup.now.pulse setup.now.frame faces.now frames ≡ false }
+        is_boundary_behind setup.now.source setup.now.quantize setup.now.pulse setup.now.frame
+        faces.now frames ≡ false }
 
     // It is the least: there is a boundary, where the faces are those of loops.
     ensures reached { result < within → AllByRecursion IsPlacedWhereRunning faces.now →
-        is_boundary_behind setup.now.source setup.now.quantize setup.now.pulse setup.now.frame faces.now result ≡ true }
+        is_boundary_behind setup.now.source setup.now.quantize setup.now.pulse setup.now.frame
+        faces.now result ≡ true }
 {
     if setup.quantize == 0 {
         return 0;

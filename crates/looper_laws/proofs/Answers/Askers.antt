@@ -19,7 +19,8 @@ abbrev pub askers_of : List Track → List (Option Asker)
 askers_of ts = map asker_on ts
 
 -- an asker changed at an index
-abbrev pub changed_at : ℕ → (Option Asker → Option Asker) → List (Option Asker) → List (Option Asker)
+abbrev pub changed_at : ℕ → (Option Asker → Option Asker) → List (Option Asker) →
+    List (Option Asker)
 changed_at k change [] = []
 changed_at zero change (a ∷ rest) = change a ∷ rest
 changed_at (suc k) change (a ∷ rest) = a ∷ changed_at k change rest
@@ -36,7 +37,8 @@ pub swept-same : (act : ℕ → Loop Sound → Loop Sound) (ts : List Track) (fr
 swept-same act [] free = refl
 swept-same act (t ∷ ts) free = ap (λ rest. t.asker ∷ rest) (swept-same act ts _)
 
-pub at_target-same : (target : Target) (selected : ℕ) (act : ℕ → Loop Sound → Loop Sound) (free : ℕ) (ts : List Track) →
+pub at_target-same : (target : Target) (selected : ℕ) (act : ℕ → Loop Sound → Loop Sound) (free : ℕ)
+    (ts : List Track) →
     askers_of (at_target target selected (on_loop act) free ts) ≡ askers_of ts
 at_target-same (One k) selected act free ts = at_index-same k act free ts
 at_target-same All selected act free ts = swept-same act ts free
@@ -52,14 +54,17 @@ pub framed-same : (frame : ℕ) (x : Sound) (l : Looper) →
     askers_of (framed frame x l).looper.tracks ≡ askers_of l.tracks
 framed-same frame x l =
     let meeting = at_boundaries frame l in
-    played-same l.globals.fade_step x meeting.tracks (free_of l.chunks meeting.tracks) ∙ swept-same (at_boundary l.globals frame (faces_of l)) l.tracks (free_of l.chunks l.tracks)
+    played-same l.globals.fade_step x meeting.tracks (free_of l.chunks meeting.tracks)
+    ∙ swept-same (at_boundary l.globals frame (faces_of l)) l.tracks (free_of l.chunks l.tracks)
 
 -- a pin puts its asker there
 pub at_index-pinned : (k : ℕ) (asker : Asker) (free : ℕ) (ts : List Track) →
-    askers_of (at_index k (λ reach t. pinned_for asker t) free ts) ≡ changed_at k (λ a. Some asker) (askers_of ts)
+    askers_of (at_index k (λ reach t. pinned_for asker t) free ts) ≡ changed_at k (λ a. Some asker)
+    (askers_of ts)
 at_index-pinned k asker free [] = refl
 at_index-pinned zero asker free (t ∷ ts) = refl
-at_index-pinned (suc k) asker free (t ∷ ts) = ap (λ rest. t.asker ∷ rest) (at_index-pinned k asker free ts)
+at_index-pinned (suc k) asker free (t ∷ ts) =
+    ap (λ rest. t.asker ∷ rest) (at_index-pinned k asker free ts)
 
 pub map-pinned : (asker : Asker) (ts : List Track) →
     askers_of (map (pinned_for asker) ts) ≡ map (λ a. Some asker) (askers_of ts)
@@ -83,14 +88,18 @@ without_session a = without (session_asker a) a
 
 -- a release takes its asker away
 pub at_index-released : (k : ℕ) (free : ℕ) (ts : List Track) →
-    askers_of (at_index k (λ reach t. loop_released t) free ts) ≡ changed_at k without_loop (askers_of ts)
+    askers_of (at_index k (λ reach t. loop_released t) free ts) ≡ changed_at k without_loop
+    (askers_of ts)
 at_index-released k free [] = refl
-at_index-released zero free (t ∷ ts) = ap (λ a. a ∷ askers_of ts) (freed_if-asker (loop_asker t.asker) t)
+at_index-released zero free (t ∷ ts) =
+    ap (λ a. a ∷ askers_of ts) (freed_if-asker (loop_asker t.asker) t)
 at_index-released (suc k) free (t ∷ ts) = ap (λ rest. t.asker ∷ rest) (at_index-released k free ts)
 
-pub map-released : (ts : List Track) → askers_of (map session_released ts) ≡ map without_session (askers_of ts)
+pub map-released : (ts : List Track) →
+    askers_of (map session_released ts) ≡ map without_session (askers_of ts)
 map-released [] = refl
-map-released (t ∷ ts) = ap₂ (λ a rest. a ∷ rest) (freed_if-asker (session_asker t.asker) t) (map-released ts)
+map-released (t ∷ ts) =
+    ap₂ (λ a rest. a ∷ rest) (freed_if-asker (session_asker t.asker) t) (map-released ts)
 
 -- the asker whose save a release of this index ends
 abbrev pub ended_at : ℕ → List (Option Asker) → Option Asker

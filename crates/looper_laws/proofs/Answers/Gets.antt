@@ -50,7 +50,8 @@ no_get_refused : (e : Entry) (index : ℤ) (what : What) (o : Option ℕ) → is
 no_get_refused e index what None save = refl
 no_get_refused e index what (Some n) save = rw save refl
 
-no_get_released : (index : ℤ) (what : What) (outcome : ℕ) (o : Option Asker) → is_value what ≡ false →
+no_get_released : (index : ℤ) (what : What) (outcome : ℕ) (o : Option Asker) →
+    is_value what ≡ false →
     told_gets (option_to_list (option_map (outcome_for index what outcome) o)) ≡ []
 no_get_released index what outcome None save = refl
 no_get_released index what outcome (Some asker) save = rw save refl
@@ -58,7 +59,8 @@ no_get_released index what outcome (Some asker) save = rw save refl
 no_get_release : (target : Target) (outcome : ℕ) (l : Looper) →
     told_gets (option_to_list (release_reply target outcome l)) ≡ []
 no_get_release (One k) outcome l = no_get_released (pos k) OfLoop outcome (ended_asker k l) refl
-no_get_release All outcome l = no_get_released (negsuc 1) OfSession outcome (running_session l.tracks) refl
+no_get_release All outcome l =
+    no_get_released (negsuc 1) OfSession outcome (running_session l.tracks) refl
 no_get_release Selected outcome l = refl
 
 -- a valid target of one loop names one of the tracks
@@ -67,20 +69,28 @@ track_there k [] inside = absurd (omega arith)
 track_there zero (t ∷ ts) inside = (t, refl)
 track_there (suc k) (t ∷ ts) inside = track_there k ts (omega arith)
 
-pub target_there : (n : ℕ) (target : Target) (l : Looper) → HasLoops n l → is_single_target n target ≡ true →
+pub target_there : (n : ℕ) (target : Target) (l : Looper) → HasLoops n l →
+    is_single_target n target ≡ true →
     (t : Track) × (track_of target l ≡ Some t)
 target_there n (One k) l has allowed =
     track_there k l.tracks (subst (λ m. k < m) (sym has.loops) (ltb-true k n allowed))
 target_there n All l has allowed = absurd (cc)
 target_there n Selected l has allowed =
-    track_there l.globals.selected_loop_num l.tracks (subst (λ m. l.globals.selected_loop_num < m) (sym has.loops) has.selects)
+    track_there l.globals.selected_loop_num l.tracks
+    (subst (λ m. l.globals.selected_loop_num < m) (sym has.loops) has.selects)
 
 -- a valid entry's reply is to a get just where the entry is one
-gets-reply_of : (c : Command) (n : ℕ) (e : Entry) (l : Looper) → HasLoops n l → is_allowed n c ≡ true →
-    told_gets (option_to_list (reply_of c e l)) ≡ filter is_get (cons_option (option_map (question_for e) (asked_for c)) [])
+gets-reply_of : (c : Command) (n : ℕ) (e : Entry) (l : Looper) → HasLoops n l →
+    is_allowed n c ≡ true →
+    told_gets (option_to_list (reply_of c e l)) ≡ filter is_get
+    (cons_option (option_map (question_for e) (asked_for c)) [])
 gets-reply_of (Get target control) n e l has allowed =
-    let there = target_there n target l has (and_parts (is_single_target n target) (is_of_loop control) allowed).0 in
-    ap (λ o. told_gets (option_to_list (option_map (λ t. reply_to e (reply_index target l) (Value control) (value_on control (free_of l.chunks l.tracks) t)) o))) there.1
+    let there = target_there n target l has
+    (and_parts (is_single_target n target) (is_of_loop control) allowed).0 in
+    ap (λ o. told_gets
+    (option_to_list (option_map
+    (λ t. reply_to e (reply_index target l) (Value control)
+    (value_on control (free_of l.chunks l.tracks) t)) o))) there.1
 gets-reply_of (GetGlobal control) n e l has allowed = refl
 gets-reply_of (SaveLoop target name) n e l has allowed =
     no_get_refused e (reply_index target l) OfLoop (refusal_at target l) refl
@@ -99,10 +109,12 @@ gets-reply : (n : ℕ) (e : Entry) (l : Looper) → HasLoops n l →
 gets-reply n e l has = by_taken (is_taken e l) refl
   where
     by_taken : (b : Bool) → is_valid (length l.tracks) e ≡ b →
-        told_gets (option_to_list (if b then reply_of e.command e l else None)) ≡ asked_gets n (e ∷ [])
+        told_gets (option_to_list (if b then reply_of e.command e l else None)) ≡ asked_gets n
+        (e ∷ [])
     by_taken true valid =
         let here = subst (λ k. is_valid k e ≡ true) has.loops valid in
-        rw here (gets-reply_of e.command n e l has (and_parts (is_sender e.sender e.command) (is_allowed n e.command) here).1)
+        rw here (gets-reply_of e.command n e l has
+        (and_parts (is_sender e.sender e.command) (is_allowed n e.command) here).1)
     by_taken false valid =
         let here = subst (λ k. is_valid k e ≡ false) has.loops valid in
         rw here refl
@@ -112,31 +124,37 @@ entered-gets : (n frame : ℕ) (es : List Entry) (l : Looper) → HasLoops n l �
 entered-gets n frame [] l has = refl
 entered-gets n frame (e ∷ es) l has =
     told_gets-append (option_to_list (reply e l)) (entered frame es (applied frame e l)).replies
-    ∙ ap₂ (λ xs ys. xs ++ ys) (gets-reply n e l has) (entered-gets n frame es (applied frame e l) (applied-has_loops n frame e l has))
+    ∙ ap₂ (λ xs ys. xs ++ ys) (gets-reply n e l has)
+    (entered-gets n frame es (applied frame e l) (applied-has_loops n frame e l has))
     ∙ sym (asked_gets-append n (e ∷ []) es)
 
 begun-gets : (n frame : ℕ) (es : List Entry) (xs : List Sound) (l : Looper) → HasLoops n l →
-    told_gets (begun frame es xs l).replies ++ asked_gets n (begun frame es xs l).left ≡ asked_gets n es
+    told_gets (begun frame es xs l).replies ++ asked_gets n (begun frame es xs l).left ≡ asked_gets
+    n es
 begun-gets n frame es [] l has = refl
 begun-gets n frame es (x ∷ xs) l has =
     let before = entered frame (due frame es) l in
     let now = framed frame x before.looper in
     let next = begun (frame + 1) (later frame es) xs now.looper in
-    let then_has = framed-has_loops n frame x before.looper (entered-has_loops n frame (due frame es) l has) in
+    let then_has = framed-has_loops n frame x before.looper
+    (entered-has_loops n frame (due frame es) l has) in
     ap (λ gets. gets ++ asked_gets n next.left) (told_gets-append before.replies next.replies)
     ∙ append_assoc (told_gets before.replies) (told_gets next.replies) (asked_gets n next.left)
-    ∙ ap₂ (λ xs ys. xs ++ ys) (entered-gets n frame (due frame es) l has) (begun-gets n (frame + 1) (later frame es) xs now.looper then_has)
+    ∙ ap₂ (λ xs ys. xs ++ ys) (entered-gets n frame (due frame es) l has)
+    (begun-gets n (frame + 1) (later frame es) xs now.looper then_has)
     ∙ sym (asked_gets-append n (due frame es) (later frame es))
     ∙ ap (asked_gets n) (due-later frame es)
 
 -- the gets that a run answers are its valid gets, in their order
 pub run-gets : (es : List Entry) (input : List Sound) (l : Looper) → SelectsALoop l →
-    filter is_get (map answered (run es input l).replies) ≡ filter is_get (questions (valid_ones (length l.tracks) es))
+    filter is_get (map answered (run es input l).replies) ≡ filter is_get
+    (questions (valid_ones (length l.tracks) es))
 run-gets es input l selects =
     let n = length l.tracks in
     let has : HasLoops n l = record { loops = refl; selects = selects } in
     let first = begun 0 es input l in
     let last = entered (length input) first.left first.looper in
     told_gets-append first.replies last.replies
-    ∙ ap (λ gets. told_gets first.replies ++ gets) (entered-gets n (length input) first.left first.looper (begun-has_loops n 0 es input l has))
+    ∙ ap (λ gets. told_gets first.replies ++ gets)
+    (entered-gets n (length input) first.left first.looper (begun-has_loops n 0 es input l has))
     ∙ begun-gets n 0 es input l has

@@ -1,4 +1,5 @@
--- The questions of the saves that run: a save adds its own, and a release takes away what it answers.
+-- The questions of the saves that run: a save adds its own, and a release takes away what it
+-- answers.
 use Rattle.std.proofs.Common.{◌≡◌, ℕ, zero, suc, ◌+◌, ◌≤◌, Bool, true, false, ◌||◌, List, [], ◌∷◌, map, Option, Some, None, IfSome, option_map, if◌then◌else◌, refl, ap, le_refl, zero-le, arith}
 use Rattle.std.specs.Bool.{⊤}
 use Rattle.sl_commands.specs.declared.What.{What}
@@ -66,22 +67,27 @@ flag-or_left false q = zero-le
 module _ (test : Question → Bool) where
   -- a loop's save adds at most its question
   loops-put : (sender seq k : ℕ) (askers : List (Option Asker)) →
-      loops test (changed_at k (λ a. Some (of_loop sender seq)) askers) ≤ loops test askers + one test (Some (question_as OfLoop (of_loop sender seq)))
+      loops test (changed_at k (λ a. Some (of_loop sender seq)) askers) ≤ loops test askers
+      + one test (Some (question_as OfLoop (of_loop sender seq)))
   loops-put sender seq k [] = zero-le
   loops-put sender seq zero (a ∷ rest) = omega arith
   loops-put sender seq (suc k) (a ∷ rest) = let more = loops-put sender seq k rest in omega arith
 
   session-put : (sender seq k : ℕ) (askers : List (Option Asker)) →
-      flag (session test (changed_at k (λ a. Some (of_loop sender seq)) askers)) ≤ flag (session test askers)
+      flag (session test (changed_at k (λ a. Some (of_loop sender seq)) askers)) ≤ flag
+      (session test askers)
   session-put sender seq k [] = le_refl 0
   session-put sender seq zero (a ∷ rest) =
-      flag-or false (passes test (asked_as OfSession (session_asker a))) (session test rest) (session test rest) zero-le (le_refl _)
+      flag-or false (passes test (asked_as OfSession (session_asker a))) (session test rest)
+      (session test rest) zero-le (le_refl _)
   session-put sender seq (suc k) (a ∷ rest) =
       let p = passes test (asked_as OfSession (session_asker a)) in
-      flag-or p p (session test (changed_at k (λ a. Some (of_loop sender seq)) rest)) (session test rest) (le_refl _) (session-put sender seq k rest)
+      flag-or p p (session test (changed_at k (λ a. Some (of_loop sender seq)) rest))
+      (session test rest) (le_refl _) (session-put sender seq k rest)
 
   pub pending-put : (sender seq k : ℕ) (askers : List (Option Asker)) →
-      pending test (changed_at k (λ a. Some (of_loop sender seq)) askers) ≤ pending test askers + one test (Some (question_as OfLoop (of_loop sender seq)))
+      pending test (changed_at k (λ a. Some (of_loop sender seq)) askers) ≤ pending test askers
+      + one test (Some (question_as OfLoop (of_loop sender seq)))
   pending-put sender seq k askers =
       let a = loops-put sender seq k askers in
       let b = session-put sender seq k askers in
@@ -94,13 +100,17 @@ module _ (test : Question → Bool) where
   loops-put_all sender seq (a ∷ rest) = let none = loops-put_all sender seq rest in omega arith
 
   session-put_all : (sender seq : ℕ) (askers : List (Option Asker)) →
-      flag (session test (map (λ a. Some (of_session sender seq)) askers)) ≤ one test (Some (question_as OfSession (of_session sender seq)))
+      flag (session test (map (λ a. Some (of_session sender seq)) askers)) ≤ one test
+      (Some (question_as OfSession (of_session sender seq)))
   session-put_all sender seq [] = zero-le
   session-put_all sender seq (a ∷ rest) =
-      flag-or_both (test (question_as OfSession (of_session sender seq))) (session test (map (λ a. Some (of_session sender seq)) rest)) (session-put_all sender seq rest)
+      flag-or_both (test (question_as OfSession (of_session sender seq)))
+      (session test (map (λ a. Some (of_session sender seq)) rest))
+      (session-put_all sender seq rest)
 
   pub pending-put_all : (sender seq : ℕ) (askers : List (Option Asker)) →
-      pending test (map (λ a. Some (of_session sender seq)) askers) ≤ one test (Some (question_as OfSession (of_session sender seq)))
+      pending test (map (λ a. Some (of_session sender seq)) askers) ≤ one test
+      (Some (question_as OfSession (of_session sender seq)))
   pending-put_all sender seq askers =
       let a = loops-put_all sender seq askers in
       let b = session-put_all sender seq askers in
@@ -108,17 +118,20 @@ module _ (test : Question → Bool) where
 
   -- the release of a loop's save takes its question away
   one-without : (a o : Option Asker) → loop_asker a ≡ o →
-      one test (asked_as OfLoop o) + one test (asked_as OfLoop (loop_asker (without o a))) ≤ one test (asked_as OfLoop (loop_asker a))
+      one test (asked_as OfLoop o) + one test (asked_as OfLoop (loop_asker (without o a))) ≤ one
+      test (asked_as OfLoop (loop_asker a))
   one-without a None is = omega arith
   one-without a (Some asker) is = rw is (omega arith)
 
   passes-without : (a o : Option Asker) →
-      flag (passes test (asked_as OfSession (session_asker (without o a)))) ≤ flag (passes test (asked_as OfSession (session_asker a)))
+      flag (passes test (asked_as OfSession (session_asker (without o a)))) ≤ flag
+      (passes test (asked_as OfSession (session_asker a)))
   passes-without a None = le_refl _
   passes-without a (Some asker) = zero-le
 
   loops-without : (k : ℕ) (askers : List (Option Asker)) →
-      one test (asked_as OfLoop (ended_at k askers)) + loops test (changed_at k without_loop askers) ≤ loops test askers
+      one test (asked_as OfLoop (ended_at k askers)) + loops test (changed_at k without_loop askers)
+      ≤ loops test askers
   loops-without k [] = le_refl 0
   loops-without zero (a ∷ rest) = let here = one-without a (loop_asker a) refl in omega arith
   loops-without (suc k) (a ∷ rest) = let more = loops-without k rest in omega arith
@@ -127,22 +140,28 @@ module _ (test : Question → Bool) where
       flag (session test (changed_at k without_loop askers)) ≤ flag (session test askers)
   session-without k [] = le_refl 0
   session-without zero (a ∷ rest) =
-      flag-or _ _ (session test rest) (session test rest) (passes-without a (loop_asker a)) (le_refl _)
+      flag-or _ _ (session test rest) (session test rest) (passes-without a (loop_asker a))
+      (le_refl _)
   session-without (suc k) (a ∷ rest) =
       let p = passes test (asked_as OfSession (session_asker a)) in
-      flag-or p p (session test (changed_at k without_loop rest)) (session test rest) (le_refl _) (session-without k rest)
+      flag-or p p (session test (changed_at k without_loop rest)) (session test rest) (le_refl _)
+      (session-without k rest)
 
   pub pending-without : (k : ℕ) (askers : List (Option Asker)) →
-      one test (asked_as OfLoop (ended_at k askers)) + pending test (changed_at k without_loop askers) ≤ pending test askers
-  pending-without k askers = let a = loops-without k askers in let b = session-without k askers in omega arith
+      one test (asked_as OfLoop (ended_at k askers))
+      + pending test (changed_at k without_loop askers) ≤ pending test askers
+  pending-without k askers = let a = loops-without k askers in let b = session-without k askers in
+      omega arith
 
   -- the release of a session's save takes its question away
   one-without_session : (a o : Option Asker) →
-      one test (asked_as OfLoop (loop_asker (without o a))) ≤ one test (asked_as OfLoop (loop_asker a))
+      one test (asked_as OfLoop (loop_asker (without o a))) ≤ one test
+      (asked_as OfLoop (loop_asker a))
   one-without_session a None = le_refl _
   one-without_session a (Some asker) = zero-le
 
-  loops-without_all : (askers : List (Option Asker)) → loops test (map without_session askers) ≤ loops test askers
+  loops-without_all : (askers : List (Option Asker)) →
+      loops test (map without_session askers) ≤ loops test askers
   loops-without_all [] = le_refl 0
   loops-without_all (a ∷ rest) =
       let here = one-without_session a (session_asker a) in
@@ -153,22 +172,28 @@ module _ (test : Question → Bool) where
   none-without a None is = is
   none-without a (Some asker) is = refl
 
-  session-without_all : (askers : List (Option Asker)) → session test (map without_session askers) ≡ false
+  session-without_all : (askers : List (Option Asker)) →
+      session test (map without_session askers) ≡ false
   session-without_all [] = refl
-  session-without_all (a ∷ rest) = rw (none-without a (session_asker a) refl) (session-without_all rest)
+  session-without_all (a ∷ rest) =
+      rw (none-without a (session_asker a) refl) (session-without_all rest)
 
   one-running : (askers : List (Option Asker)) →
       one test (asked_as OfSession (running askers)) ≤ flag (session test askers)
   one-running [] = le_refl 0
   one-running (a ∷ rest) = by_asker (session_asker a) (one-running rest)
     where
-      by_asker : (o : Option Asker) → one test (asked_as OfSession (running rest)) ≤ flag (session test rest) →
-          one test (asked_as OfSession (asker_or o (running rest))) ≤ flag (passes test (asked_as OfSession o) || session test rest)
+      by_asker : (o : Option Asker) →
+          one test (asked_as OfSession (running rest)) ≤ flag (session test rest) →
+          one test (asked_as OfSession (asker_or o (running rest))) ≤ flag
+          (passes test (asked_as OfSession o) || session test rest)
       by_asker None more = more
-      by_asker (Some asker) more = flag-or_left (test (question_as OfSession asker)) (session test rest)
+      by_asker (Some asker) more =
+          flag-or_left (test (question_as OfSession asker)) (session test rest)
 
   pub pending-without_all : (askers : List (Option Asker)) →
-      one test (asked_as OfSession (running askers)) + pending test (map without_session askers) ≤ pending test askers
+      one test (asked_as OfSession (running askers)) + pending test (map without_session askers)
+      ≤ pending test askers
   pending-without_all askers =
       let a = loops-without_all askers in
       let b = ap flag (session-without_all askers) in
@@ -180,22 +205,26 @@ module _ (P : Question → Type 0) where
   abbrev pub AllPending : List (Option Asker) → Type 0
   AllPending [] = ⊤
   AllPending (a ∷ rest) =
-      IfSome (asked_as OfLoop (loop_asker a)) P × IfSome (asked_as OfSession (session_asker a)) P × AllPending rest
+      IfSome (asked_as OfLoop (loop_asker a)) P × IfSome (asked_as OfSession (session_asker a)) P
+      × AllPending rest
 
-  pub all-put : (sender seq k : ℕ) (askers : List (Option Asker)) → P (question_as OfLoop (of_loop sender seq)) →
+  pub all-put : (sender seq k : ℕ) (askers : List (Option Asker)) →
+      P (question_as OfLoop (of_loop sender seq)) →
       AllPending askers → AllPending (changed_at k (λ a. Some (of_loop sender seq)) askers)
   all-put sender seq k [] p all = tt
   all-put sender seq zero (a ∷ rest) p all = (p, tt, all.2)
   all-put sender seq (suc k) (a ∷ rest) p all = (all.0, all.1, all-put sender seq k rest p all.2)
 
   pub all-put_all : (sender seq : ℕ) (askers : List (Option Asker)) →
-      P (question_as OfSession (of_session sender seq)) → AllPending (map (λ a. Some (of_session sender seq)) askers)
+      P (question_as OfSession (of_session sender seq)) →
+      AllPending (map (λ a. Some (of_session sender seq)) askers)
   all-put_all sender seq [] p = tt
   all-put_all sender seq (a ∷ rest) p = (tt, p, all-put_all sender seq rest p)
 
   all-without_one : (a o : Option Asker) → IfSome (asked_as OfLoop (loop_asker a)) P →
       IfSome (asked_as OfSession (session_asker a)) P →
-      IfSome (asked_as OfLoop (loop_asker (without o a))) P × IfSome (asked_as OfSession (session_asker (without o a))) P
+      IfSome (asked_as OfLoop (loop_asker (without o a))) P
+      × IfSome (asked_as OfSession (session_asker (without o a))) P
   all-without_one a None p q = (p, q)
   all-without_one a (Some asker) p q = (tt, tt)
 
@@ -208,10 +237,12 @@ module _ (P : Question → Type 0) where
   pub all-without : (k : ℕ) (askers : List (Option Asker)) → AllPending askers →
       AllPending (changed_at k without_loop askers)
   all-without k [] all = tt
-  all-without zero (a ∷ rest) all = let here = all-without_one a (loop_asker a) all.0 all.1 in (here.0, here.1, all.2)
+  all-without zero (a ∷ rest) all = let here = all-without_one a (loop_asker a) all.0 all.1 in
+      (here.0, here.1, all.2)
   all-without (suc k) (a ∷ rest) all = (all.0, all.1, all-without k rest all.2)
 
-  pub all-without_all : (askers : List (Option Asker)) → AllPending askers → AllPending (map without_session askers)
+  pub all-without_all : (askers : List (Option Asker)) → AllPending askers →
+      AllPending (map without_session askers)
   all-without_all [] all = tt
   all-without_all (a ∷ rest) all =
       let here = all-without_one a (session_asker a) all.0 all.1 in
@@ -222,7 +253,8 @@ module _ (P : Question → Type 0) where
   all-running [] all = tt
   all-running (a ∷ rest) all = by_asker (session_asker a) all.1 (all-running rest all.2)
     where
-      by_asker : (o : Option Asker) → IfSome (asked_as OfSession o) P → IfSome (asked_as OfSession (running rest)) P →
+      by_asker : (o : Option Asker) → IfSome (asked_as OfSession o) P →
+          IfSome (asked_as OfSession (running rest)) P →
           IfSome (asked_as OfSession (asker_or o (running rest))) P
       by_asker None p more = more
       by_asker (Some asker) p more = p

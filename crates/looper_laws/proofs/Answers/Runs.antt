@@ -26,7 +26,8 @@ pub length-begun_output : (frame : ℕ) (es : List Entry) (xs : List Sound) (l :
     length (begun frame es xs l).output ≡ length xs
 length-begun_output frame es [] l = refl
 length-begun_output frame es (x ∷ xs) l =
-    ap suc (length-begun_output (frame + 1) (later frame es) xs (framed frame x (entered frame (due frame es) l).looper).looper)
+    ap suc (length-begun_output (frame + 1) (later frame es) xs
+    (framed frame x (entered frame (due frame es) l).looper).looper)
 
 pub length-run_output : (es : List Entry) (input : List Sound) (l : Looper) →
     length (run es input l).output ≡ length input
@@ -50,7 +51,8 @@ abbrev pub told : (Question → Bool) → List Reply → ℕ
 told test rs = count_by test (map answered rs)
 
 module _ (test : Question → Bool) where
-  count-append : (xs ys : List Question) → count_by test (xs ++ ys) ≡ count_by test xs + count_by test ys
+  count-append : (xs ys : List Question) →
+      count_by test (xs ++ ys) ≡ count_by test xs + count_by test ys
   count-append xs ys = sum_by-append (λ q. if test q then 1 else 0) xs ys
 
   count-one : (q : Question) → count_by test (q ∷ []) ≡ one test (Some q)
@@ -61,12 +63,15 @@ module _ (test : Question → Bool) where
       ap (count_by test) (filter_map-append question xs ys)
       ∙ count-append (questions xs) (questions ys)
 
-  pub asked-cons : (e : Entry) (es : List Entry) → asked test (e ∷ es) ≡ one test (question e) + asked test es
+  pub asked-cons : (e : Entry) (es : List Entry) →
+      asked test (e ∷ es) ≡ one test (question e) + asked test es
   asked-cons e es = by_question (question e)
     where
-      by_question : (o : Option Question) → count_by test (cons_option o (questions es)) ≡ one test o + asked test es
+      by_question : (o : Option Question) →
+          count_by test (cons_option o (questions es)) ≡ one test o + asked test es
       by_question None = omega arith
-      by_question (Some q) = count-append (q ∷ []) (questions es) ∙ ap (λ n. n + asked test es) (count-one q)
+      by_question (Some q) =
+          count-append (q ∷ []) (questions es) ∙ ap (λ n. n + asked test es) (count-one q)
 
   told-append : (xs ys : List Reply) → told test (xs ++ ys) ≡ told test xs + told test ys
   told-append xs ys =
@@ -82,7 +87,8 @@ module _ (test : Question → Bool) where
   running_of l = pending test (askers_of l.tracks)
 
   entered-count : (frame : ℕ) (es : List Entry) (l : Looper) →
-      told test (entered frame es l).replies + running_of (entered frame es l).looper ≤ running_of l + asked test es
+      told test (entered frame es l).replies + running_of (entered frame es l).looper ≤ running_of l
+      + asked test es
   entered-count frame [] l = omega arith
   entered-count frame (e ∷ es) l =
       let now = applied frame e l in
@@ -94,7 +100,8 @@ module _ (test : Question → Bool) where
       omega arith
 
   begun-count : (frame : ℕ) (es : List Entry) (xs : List Sound) (l : Looper) →
-      told test (begun frame es xs l).replies + running_of (begun frame es xs l).looper + asked test (begun frame es xs l).left ≤ running_of l + asked test es
+      told test (begun frame es xs l).replies + running_of (begun frame es xs l).looper
+      + asked test (begun frame es xs l).left ≤ running_of l + asked test es
   begun-count frame es [] l = omega arith
   begun-count frame es (x ∷ xs) l =
       let before = entered frame (due frame es) l in
@@ -104,7 +111,8 @@ module _ (test : Question → Bool) where
       let here = entered-count frame (due frame es) l in
       let same = ap (pending test) (framed-same frame x before.looper) in
       let rest = begun-count (frame + 1) (later frame es) xs now.looper in
-      let split = sym (asked-append (due frame es) (later frame es)) ∙ ap (asked test) (due-later frame es) in
+      let split = sym (asked-append (due frame es) (later frame es))
+      ∙ ap (asked test) (due-later frame es) in
       omega arith
 
   pub run-count : (es : List Entry) (input : List Sound) (l : Looper) →
@@ -124,7 +132,8 @@ module _ (test : Question → Bool) where
   first-pending (s ∷ ss) (list ∷ lists) = let rest = first-pending ss lists in omega arith
 
   -- in a run from its start no more questions are answered than were asked
-  pub start-count : (settings : LooperSettings) (chunks : ℕ) (initial : List (List Sound)) (es : List Entry) (input : List Sound) →
+  pub start-count : (settings : LooperSettings) (chunks : ℕ) (initial : List (List Sound))
+      (es : List Entry) (input : List Sound) →
       told test (run es input (start settings chunks initial)).replies ≤ asked test es
   start-count settings chunks initial es input =
       let all = run-count es input (start settings chunks initial) in
@@ -141,7 +150,8 @@ module _ (P : Question → Type 0) where
   abbrev AllRunning : Looper → Type 0
   AllRunning l = AllPending P (askers_of l.tracks)
 
-  told-all_option : (o : Option Reply) → IfSome (option_map answered o) P → AllTold (option_to_list o)
+  told-all_option : (o : Option Reply) → IfSome (option_map answered o) P →
+      AllTold (option_to_list o)
   told-all_option None p = All-nil (λ r. P (answered r))
   told-all_option (Some r) p = All-cons (λ r. P (answered r)) r [] p (All-nil (λ r. P (answered r)))
 
@@ -150,17 +160,24 @@ module _ (P : Question → Type 0) where
   entered-all frame [] l all now = (All-nil (λ r. P (answered r)), now)
   entered-all frame (e ∷ es) l all now =
       let here = applied-all P frame e l (All-head (λ e. IfSome (question e) P) e es all) now in
-      let rest = entered-all frame es (applied frame e l) (All-tail (λ e. IfSome (question e) P) e es all) here.1 in
-      (All-append (λ r. P (answered r)) (option_to_list (reply e l)) _ (told-all_option (reply e l) here.0) rest.0, rest.1)
+      let rest = entered-all frame es (applied frame e l)
+      (All-tail (λ e. IfSome (question e) P) e es all) here.1 in (
+        All-append (λ r. P (answered r)) (option_to_list (reply e l)) _
+            (told-all_option (reply e l) here.0) rest.0,
+        rest.1,
+      )
 
-  begun-all : (frame : ℕ) (es : List Entry) (xs : List Sound) (l : Looper) → AllAsked es → AllRunning l →
+  begun-all : (frame : ℕ) (es : List Entry) (xs : List Sound) (l : Looper) → AllAsked es →
+      AllRunning l →
       AllTold (begun frame es xs l).replies × AllRunning (begun frame es xs l).looper
   begun-all frame es [] l all now = (All-nil (λ r. P (answered r)), now)
   begun-all frame es (x ∷ xs) l all now =
       let before = entered frame (due frame es) l in
-      let here = entered-all frame (due frame es) l (due-all (λ e. IfSome (question e) P) frame es all) now in
+      let here = entered-all frame (due frame es) l
+      (due-all (λ e. IfSome (question e) P) frame es all) now in
       let after = subst (AllPending P) (sym (framed-same frame x before.looper)) here.1 in
-      let rest = begun-all (frame + 1) (later frame es) xs (framed frame x before.looper).looper (later-all (λ e. IfSome (question e) P) frame es all) after in
+      let rest = begun-all (frame + 1) (later frame es) xs (framed frame x before.looper).looper
+      (later-all (λ e. IfSome (question e) P) frame es all) after in
       (All-append (λ r. P (answered r)) before.replies _ here.0 rest.0, rest.1)
 
   pub run-all : (es : List Entry) (input : List Sound) (l : Looper) → AllAsked es → AllRunning l →
@@ -168,7 +185,8 @@ module _ (P : Question → Type 0) where
   run-all es input l all now =
       let first = begun 0 es input l in
       let here = begun-all 0 es input l all now in
-      let rest = entered-all (length input) first.left first.looper (left-all (λ e. IfSome (question e) P) 0 es input l all) here.1 in
+      let rest = entered-all (length input) first.left first.looper
+      (left-all (λ e. IfSome (question e) P) 0 es input l all) here.1 in
       (All-append (λ r. P (answered r)) first.replies _ here.0 rest.0, rest.1)
 
   first-all : (strips : List StripSettings) (lists : List (List Sound)) →
@@ -183,28 +201,35 @@ module _ (P : Question → Type 0) where
 
 -- each entry's question is among those of all
 asked_among : (es : List Entry) (all : List Question) →
-    ((q : Question) → Contains (questions es) q → Contains all q) → All (λ e. IfSome (question e) (Contains all)) es
+    ((q : Question) → Contains (questions es) q → Contains all q) →
+    All (λ e. IfSome (question e) (Contains all)) es
 asked_among [] all among = All-nil (λ e. IfSome (question e) (Contains all))
 asked_among (e ∷ es) all among =
     let here = first (question e) among in
     All-cons (λ e. IfSome (question e) (Contains all)) e es here.0 (asked_among es all here.1)
   where
-    first : (o : Option Question) → ((q : Question) → Contains (cons_option o (questions es)) q → Contains all q) →
+    first : (o : Option Question) →
+        ((q : Question) → Contains (cons_option o (questions es)) q → Contains all q) →
         IfSome o (Contains all) × ((q : Question) → Contains (questions es) q → Contains all q)
     first None among = (tt, among)
     first (Some q) among =
-        let inside : 0 < length (q ∷ questions es) = omega arith in
-        (among q (0, inside, refl), λ p at. among p (Contains-append_right (q ∷ []) (questions es) p at))
+        let inside : 0 < length (q ∷ questions es) = omega arith in (
+          among q (0, inside, refl),
+          λ p at. among p (Contains-append_right (q ∷ []) (questions es) p at),
+        )
 
 pub asked_of_all : (es : List Entry) → All (λ e. IfSome (question e) (Contains (questions es))) es
 asked_of_all es = asked_among es (questions es) (λ q at. at)
 
 -- each reply of a run from its start answers one of its gets and saves
-pub start-asked : (settings : LooperSettings) (chunks : ℕ) (initial : List (List Sound)) (es : List Entry) (input : List Sound) →
-    All (λ r. Contains (questions es) (answered r)) (run es input (start settings chunks initial)).replies
+pub start-asked : (settings : LooperSettings) (chunks : ℕ) (initial : List (List Sound))
+    (es : List Entry) (input : List Sound) →
+    All (λ r. Contains (questions es) (answered r))
+    (run es input (start settings chunks initial)).replies
 start-asked settings chunks initial es input =
     let P = Contains (questions es) in
-    (run-all P es input (start settings chunks initial) (asked_of_all es) (start-all P settings chunks initial)).0
+    (run-all P es input (start settings chunks initial) (asked_of_all es)
+    (start-all P settings chunks initial)).0
 
 -- what holds of all of two lists holds of all of the first
 pub all_left : {A : Type 0} (P : A → Type 0) (xs ys : List A) → All P (xs ++ ys) → All P xs
@@ -216,13 +241,18 @@ some_if : {A : Type 0} (P : A → Type 0) (o : Option A) (a : A) → o ≡ Some 
 some_if P o a is all = subst (λ o. IfSome o P) is all
 
 -- a reply that an entry gives answers a get or a save before it, or this entry
-pub start-asked_before : (settings : LooperSettings) (chunks : ℕ) (initial : List (List Sound)) (before : List Entry) (e : Entry) (input : List Sound) (r : Reply) →
+pub start-asked_before : (settings : LooperSettings) (chunks : ℕ) (initial : List (List Sound))
+    (before : List Entry) (e : Entry) (input : List Sound) (r : Reply) →
     reply e (met before e input (start settings chunks initial)) ≡ Some r →
     Contains (questions (before ++ e ∷ [])) (answered r)
 start-asked_before settings chunks initial before e input r is =
     let l = start settings chunks initial in
     let P = Contains (questions (before ++ e ∷ [])) in
     let all = asked_of_all (before ++ e ∷ []) in
-    let at = run-all P before (take e.frame input) l (all_left (λ e. IfSome (question e) P) before (e ∷ []) all) (start-all P settings chunks initial) in
-    let own = All-head (λ e. IfSome (question e) P) e [] (all_right (λ e. IfSome (question e) P) before (e ∷ []) all) in
-    some_if P (option_map answered (reply e (met before e input l))) (answered r) (ap (option_map answered) is) (applied-all P 0 e (met before e input l) own at.1).0
+    let at = run-all P before (take e.frame input) l
+    (all_left (λ e. IfSome (question e) P) before (e ∷ []) all)
+    (start-all P settings chunks initial) in
+    let own = All-head (λ e. IfSome (question e) P) e []
+    (all_right (λ e. IfSome (question e) P) before (e ∷ []) all) in
+    some_if P (option_map answered (reply e (met before e input l))) (answered r)
+    (ap (option_map answered) is) (applied-all P 0 e (met before e input l) own at.1).0

@@ -9,9 +9,19 @@ use Rattle.looper_rules.specs.States.{InMode, IsRun, IsStack}
 use Rattle.looper_rules.specs.Reached.{Unchanged, Keeps}
 
 -- the limits of a stack say nothing of its run
-pub stack_in_run : {A : Type 0} {s : Stack A} (run : Option LastWrite) → IsStack s → IsStack (record s { run = run })
+pub stack_in_run : {A : Type 0} {s : Stack A} (run : Option LastWrite) → IsStack s →
+    IsStack (record s { run = run })
 stack_in_run run h =
-    record { layers_within = h.layers_within; redo_within = h.redo_within; pin_within = h.pin_within; count = h.count; seams = h.seams; order = h.order; redo_order = h.redo_order }
+    record {
+      layers_within = h.layers_within;
+      redo_within = h.redo_within;
+      pin_within =
+          h.pin_within;
+      count = h.count;
+      seams = h.seams;
+      order = h.order;
+      redo_order = h.redo_order;
+    }
 
 -- another deck and another run
 pub with_deck :
@@ -20,12 +30,36 @@ pub with_deck :
     IsRun d.mode run d.pos d.backward → d.press ≡ l.deck.press →
     Keeps a (record l { deck = d; stack = record l.stack { run = run } })
 with_deck d run h in_mode goes press =
-    record { loop = record { in_mode = in_mode; run = goes; stack = stack_in_run run h.loop.stack; refused = h.loop.refused }; reach = h.reach; pinned = h.pinned; controls = h.controls; press = press ∙ h.press }
+    record {
+      loop = record {
+        in_mode = in_mode;
+        run = goes;
+        stack = stack_in_run run h.loop.stack;
+        refused = h.loop.refused;
+      };
+      reach = h.reach;
+      pinned = h.pinned;
+      controls =
+          h.controls;
+      press = press ∙ h.press;
+    }
 
 -- one refusal more
 pub refused_keeps : {A : Type 0} {a : Unchanged} {l : Loop A} → Keeps a l → Keeps a (refused_once l)
 refused_keeps {l = l} h =
-    record { loop = record { in_mode = h.loop.in_mode; run = h.loop.run; stack = h.loop.stack; refused = (let at_most : min (l.refused + 1) max_value ≤ max_value = omega arith in at_most) }; reach = h.reach; pinned = h.pinned; controls = h.controls; press = h.press }
+    record {
+      loop = record {
+        in_mode = h.loop.in_mode;
+        run = h.loop.run;
+        stack = h.loop.stack;
+        refused = (let at_most : min (l.refused + 1) max_value ≤ max_value = omega arith in
+            at_most);
+      };
+      reach = h.reach;
+      pinned = h.pinned;
+      controls = h.controls;
+      press = h.press;
+    }
 
 -- where no run goes on, none has to be told
 pub no_run : (mode : Mode) (pos : ℕ) (backward : Bool) → IsRun mode None pos backward

@@ -15,16 +15,27 @@ use Rattle.looper_laws.proofs.Kept.Rest.{closed_layers, closed_redo, quiet_run, 
 
 -- the loop in this mode, with these layers and redo layers
 abbrev pub so : {A : Type 0} → Mode → List (Layer A) → List (Layer A) → Loop A → Loop A
-so mode layers redo l = record l { deck = record l.deck { mode = mode }; stack = record l.stack { layers = layers; redo = redo } }
+so mode layers redo l =
+    record l {
+      deck = record l.deck { mode = mode };
+      stack =
+          record l.stack { layers = layers; redo = redo };
+    }
 
 -- the loop with this mode and place beside its layers and redo layers
 abbrev pub moved : {A : Type 0} → Mode → ℕ → List (Layer A) → List (Layer A) → Loop A → Loop A
-moved mode pos layers redo l = record l { deck = record l.deck { mode = mode; pos = pos }; stack = record l.stack { layers = layers; redo = redo } }
+moved mode pos layers redo l = record l {
+  deck = record l.deck { mode = mode; pos = pos };
+  stack =
+      record l.stack { layers = layers; redo = redo };
+}
 
 -- a layer that moves from the layers to redo
 goes_back :
-    {A : Type 0} {a : Unchanged} (l : Loop A) (mode now : Mode) (pos : ℕ) (x : Layer A) (xs redo : List (Layer A)) → Keeps a (so mode (x ∷ xs) redo l) →
-    InMode now xs (x ∷ redo) pos l.deck.backward → IsRun now l.stack.run pos l.deck.backward → Keeps a (moved now pos xs (x ∷ redo) l)
+    {A : Type 0} {a : Unchanged} (l : Loop A) (mode now : Mode) (pos : ℕ) (x : Layer A)
+    (xs redo : List (Layer A)) → Keeps a (so mode (x ∷ xs) redo l) →
+    InMode now xs (x ∷ redo) pos l.deck.backward → IsRun now l.stack.run pos l.deck.backward →
+    Keeps a (moved now pos xs (x ∷ redo) l)
 goes_back l mode now pos x xs redo h in_mode run =
     record {
       loop = record {
@@ -35,7 +46,8 @@ goes_back l mode now pos x xs redo h in_mode run =
           redo_within = (h.loop.stack.layers_within.0, h.loop.stack.redo_within);
           pin_within = h.loop.stack.pin_within;
           count = (let before = h.loop.stack.count in omega arith);
-          seams = (let before = h.loop.stack.seams in let from = total_seams-cons x xs in let to = total_seams-cons x redo in omega arith);
+          seams = (let before = h.loop.stack.seams in let from = total_seams-cons x xs in
+              let to = total_seams-cons x redo in omega arith);
           order = h.loop.stack.order.1;
           redo_order = (h.loop.stack.order.0, h.loop.stack.redo_order);
         };
@@ -50,8 +62,10 @@ goes_back l mode now pos x xs redo h in_mode run =
 -- a layer that comes back from redo
 comes_back :
     {A :
-    Type 0} {a : Unchanged} (l : Loop A) (mode now : Mode) (pos : ℕ) (layers : List (Layer A)) (x : Layer A) (xs : List (Layer A)) → Keeps a (so mode layers (x ∷ xs) l) →
-    InMode now (x ∷ layers) xs pos l.deck.backward → IsRun now l.stack.run pos l.deck.backward → Keeps a (moved now pos (x ∷ layers) xs l)
+    Type 0} {a : Unchanged} (l : Loop A) (mode now : Mode) (pos : ℕ) (layers : List (Layer A))
+    (x : Layer A) (xs : List (Layer A)) → Keeps a (so mode layers (x ∷ xs) l) →
+    InMode now (x ∷ layers) xs pos l.deck.backward → IsRun now l.stack.run pos l.deck.backward →
+    Keeps a (moved now pos (x ∷ layers) xs l)
 comes_back l mode now pos layers x xs h in_mode run =
     record {
       loop = record {
@@ -62,7 +76,8 @@ comes_back l mode now pos layers x xs h in_mode run =
           redo_within = h.loop.stack.redo_within.1;
           pin_within = h.loop.stack.pin_within;
           count = (let before = h.loop.stack.count in omega arith);
-          seams = (let before = h.loop.stack.seams in let to = total_seams-cons x layers in let from = total_seams-cons x xs in omega arith);
+          seams = (let before = h.loop.stack.seams in let to = total_seams-cons x layers in
+              let from = total_seams-cons x xs in omega arith);
           order = (h.loop.stack.redo_order.0, h.loop.stack.order);
           redo_order = h.loop.stack.redo_order.1;
         };
@@ -76,14 +91,16 @@ comes_back l mode now pos layers x xs h in_mode run =
 
 -- a mode that isn't Off where there is a layer
 on :
-    {A : Type 0} (mode : Mode) (l : Layer A) (ls redo : List (Layer A)) (pos : ℕ) (backward : Bool) →
+    {A : Type 0} (mode : Mode) (l : Layer A) (ls redo : List (Layer A)) (pos : ℕ)
+    (backward : Bool) →
     InMode mode (l ∷ ls) redo pos backward → is_off mode ≡ false
 on Off l ls redo pos backward h = absurd (let none : ⊥ = Prim.cc (h.0.0) in none)
 on _ l ls redo pos backward h = refl
 
 -- a step back, outside the writing modes
 steps_back :
-    {A : Type 0} {a : Unchanged} (l : Loop A) (mode : Mode) (layers redo : List (Layer A)) → is_writing mode ≡ false →
+    {A : Type 0} {a : Unchanged} (l : Loop A) (mode : Mode) (layers redo : List (Layer A)) →
+    is_writing mode ≡ false →
     Keeps a (so mode layers redo l) → Keeps a (stepped_back (so mode layers redo l))
 steps_back l mode [] redo quiet h =
     with_deck (record l.deck { mode = Off; pos = 0 }) l.stack.run h
@@ -91,15 +108,28 @@ steps_back l mode [] redo quiet h =
     (quiet_run mode l.stack.run l.deck.pos l.deck.backward quiet h.loop.run)
     refl
 steps_back l mode (x ∷ []) redo quiet h =
-    let closed : AreClosed (x ∷ []) = closed_layers mode (x ∷ []) redo l.deck.pos l.deck.backward quiet h.loop.in_mode
-    in goes_back l mode Off 0 x [] redo h
-    ((refl, refl), (closed.0, closed_redo mode (x ∷ []) redo l.deck.pos l.deck.backward quiet h.loop.in_mode))
+    let closed : AreClosed (x ∷ []) =
+    closed_layers mode (x ∷ []) redo l.deck.pos l.deck.backward quiet h.loop.in_mode
+    in goes_back l mode Off 0 x [] redo h (
+      (refl, refl),
+      (
+        closed.0,
+        closed_redo mode (x ∷ []) redo l.deck.pos l.deck.backward quiet h.loop.in_mode,
+      ),
+    )
     (quiet_run mode l.stack.run l.deck.pos l.deck.backward quiet h.loop.run)
 steps_back l mode (x ∷ y ∷ ys) redo quiet h =
-    let closed : AreClosed (x ∷ y ∷ ys) = closed_layers mode (x ∷ y ∷ ys) redo l.deck.pos l.deck.backward quiet h.loop.in_mode
-    in let none : l.stack.run ≡ None = quiet_run mode l.stack.run l.deck.pos l.deck.backward quiet h.loop.run
+    let closed : AreClosed (x ∷ y ∷ ys) =
+    closed_layers mode (x ∷ y ∷ ys) redo l.deck.pos l.deck.backward quiet h.loop.in_mode
+    in let none : l.stack.run ≡ None =
+    quiet_run mode l.stack.run l.deck.pos l.deck.backward quiet h.loop.run
     in goes_back l mode mode (l.deck.pos % length y.cells) x (y ∷ ys) redo h
-    (in_quiet mode y ys (x ∷ redo) (l.deck.pos % length y.cells) l.deck.backward quiet (on mode x (y ∷ ys) redo l.deck.pos l.deck.backward h.loop.in_mode) (closed.1, mod-lt l.deck.pos closed.1.0.not_empty) (closed.0, closed_redo mode (x ∷ y ∷ ys) redo l.deck.pos l.deck.backward quiet h.loop.in_mode))
+    (in_quiet mode y ys (x ∷ redo) (l.deck.pos % length y.cells) l.deck.backward quiet
+    (on mode x (y ∷ ys) redo l.deck.pos l.deck.backward h.loop.in_mode)
+    (closed.1, mod-lt l.deck.pos closed.1.0.not_empty) (
+      closed.0,
+      closed_redo mode (x ∷ y ∷ ys) redo l.deck.pos l.deck.backward quiet h.loop.in_mode,
+    ))
     (run_in_quiet mode l.stack.run (l.deck.pos % length y.cells) l.deck.backward quiet none)
 
 -- closing leads out of the writing modes
@@ -110,7 +140,8 @@ closed_is_quiet _ leads = absurd leads
 
 -- a loop with no layer open
 settled_keeps :
-    {A : Type 0} {a : Unchanged} {l : Loop A} (writing : Bool) → is_writing l.deck.mode ≡ writing → Keeps a l →
+    {A : Type 0} {a : Unchanged} {l : Loop A} (writing : Bool) → is_writing l.deck.mode ≡ writing →
+    Keeps a l →
     Keeps a (closed_if writing l) × (is_writing (closed_if writing l).deck.mode ≡ false)
 settled_keeps {l = l} true e h = (closed_keeps e h, closed_is_quiet _ (closed_leads l))
 settled_keeps {l = l} false e h = (h, e)
@@ -119,11 +150,13 @@ settled_keeps {l = l} false e h = (h, e)
 pub undo_keeps : {A : Type 0} {a : Unchanged} {l : Loop A} → Keeps a l → Keeps a (undo l)
 undo_keeps {l = l} h =
     let now = settled_keeps (is_writing l.deck.mode) refl h
-    in steps_back (settled l) (settled l).deck.mode (settled l).stack.layers (settled l).stack.redo now.1 now.0
+    in steps_back (settled l) (settled l).deck.mode (settled l).stack.layers (settled l).stack.redo
+    now.1 now.0
 
 -- no layer waits for redo in a writing mode
 no_redo :
-    {A : Type 0} (mode : Mode) (layers : List (Layer A)) (x : Layer A) (xs : List (Layer A)) (pos : ℕ) (backward : Bool) →
+    {A : Type 0} (mode : Mode) (layers : List (Layer A)) (x : Layer A) (xs : List (Layer A))
+    (pos : ℕ) (backward : Bool) →
     InMode mode layers (x ∷ xs) pos backward → is_writing mode ≡ false
 no_redo Recording layers x xs pos backward h = absurd (let none : ⊥ = Prim.cc (h.1) in none)
 no_redo Overdubbing layers x xs pos backward h = absurd (let none : ⊥ = Prim.cc (h.1) in none)
@@ -135,24 +168,41 @@ no_redo _ layers x xs pos backward h = refl
 
 -- a layer that comes back in Off
 back_from_off :
-    {A : Type 0} {a : Unchanged} (l : Loop A) (layers : List (Layer A)) (x : Layer A) (xs : List (Layer A)) →
+    {A : Type 0} {a : Unchanged} (l : Loop A) (layers : List (Layer A)) (x : Layer A)
+    (xs : List (Layer A)) →
     Keeps a (so Off layers (x ∷ xs) l) → Keeps a (moved Playing 0 (x ∷ layers) xs l)
 back_from_off l layers x xs h =
-    comes_back l Off Playing 0 layers x xs h
-    (((h.loop.in_mode.1.0, closed_layers Off layers (x ∷ xs) l.deck.pos l.deck.backward refl h.loop.in_mode), h.loop.in_mode.1.0.not_empty), h.loop.in_mode.1.1)
+    comes_back l Off Playing 0 layers x xs h (
+      (
+        (
+          h.loop.in_mode.1.0,
+          closed_layers Off layers (x ∷ xs) l.deck.pos l.deck.backward refl
+              h.loop.in_mode,
+        ),
+        h.loop.in_mode.1.0.not_empty,
+      ),
+      h.loop.in_mode.1.1,
+    )
     h.loop.run
 
 -- and in another mode
 back_elsewhere :
-    {A : Type 0} {a : Unchanged} (l : Loop A) (mode : Mode) (layers : List (Layer A)) (x : Layer A) (xs : List (Layer A)) →
+    {A : Type 0} {a : Unchanged} (l : Loop A) (mode : Mode) (layers : List (Layer A)) (x : Layer A)
+    (xs : List (Layer A)) →
     is_off mode ≡ false → Keeps a (so mode layers (x ∷ xs) l) →
     Keeps a (moved mode (l.deck.pos % length x.cells) (x ∷ layers) xs l)
 back_elsewhere l mode layers x xs is_on h =
-    let quiet : is_writing mode ≡ false = no_redo mode layers x xs l.deck.pos l.deck.backward h.loop.in_mode
-    in let redo : AreClosed (x ∷ xs) = closed_redo mode layers (x ∷ xs) l.deck.pos l.deck.backward quiet h.loop.in_mode
-    in let none : l.stack.run ≡ None = quiet_run mode l.stack.run l.deck.pos l.deck.backward quiet h.loop.run
+    let quiet : is_writing mode ≡ false =
+    no_redo mode layers x xs l.deck.pos l.deck.backward h.loop.in_mode
+    in let redo : AreClosed (x ∷ xs) =
+    closed_redo mode layers (x ∷ xs) l.deck.pos l.deck.backward quiet h.loop.in_mode
+    in let none : l.stack.run ≡ None =
+    quiet_run mode l.stack.run l.deck.pos l.deck.backward quiet h.loop.run
     in comes_back l mode mode (l.deck.pos % length x.cells) layers x xs h
-    (in_quiet mode x layers xs (l.deck.pos % length x.cells) l.deck.backward quiet is_on ((redo.0, closed_layers mode layers (x ∷ xs) l.deck.pos l.deck.backward quiet h.loop.in_mode), mod-lt l.deck.pos redo.0.not_empty) redo.1)
+    (in_quiet mode x layers xs (l.deck.pos % length x.cells) l.deck.backward quiet is_on (
+      (redo.0, closed_layers mode layers (x ∷ xs) l.deck.pos l.deck.backward quiet h.loop.in_mode),
+      mod-lt l.deck.pos redo.0.not_empty,
+    ) redo.1)
     (run_in_quiet mode l.stack.run (l.deck.pos % length x.cells) l.deck.backward quiet none)
 
 -- redo, by the mode and the redo layers
@@ -178,14 +228,16 @@ pub redo_keeps : {A : Type 0} {a : Unchanged} {l : Loop A} → Keeps a l → Kee
 redo_keeps {l = l} h = redoes l l.deck.mode l.stack.layers l.stack.redo h
 
 -- as many undos and redos as one likes
-pub undo_each_keeps : {A : Type 0} {a : Unchanged} (l : Loop A) (ls : List (Layer A)) → Keeps a l → Keeps a (undo_each ls l)
+pub undo_each_keeps : {A : Type 0} {a : Unchanged} (l : Loop A) (ls : List (Layer A)) → Keeps a l →
+    Keeps a (undo_each ls l)
 undo_each_keeps l [] h = h
 undo_each_keeps l (x ∷ xs) h = undo_each_keeps (undo l) xs (undo_keeps h)
 
 pub undo_all_keeps : {A : Type 0} {a : Unchanged} {l : Loop A} → Keeps a l → Keeps a (undo_all l)
 undo_all_keeps {l = l} h = undo_each_keeps l l.stack.layers h
 
-pub redo_each_keeps : {A : Type 0} {a : Unchanged} (l : Loop A) (ls : List (Layer A)) → Keeps a l → Keeps a (redo_each ls l)
+pub redo_each_keeps : {A : Type 0} {a : Unchanged} (l : Loop A) (ls : List (Layer A)) → Keeps a l →
+    Keeps a (redo_each ls l)
 redo_each_keeps l [] h = h
 redo_each_keeps l (x ∷ xs) h = redo_each_keeps (redo l) xs (redo_keeps h)
 

@@ -1,4 +1,5 @@
--- What holds of some layers holds of the layers with one more, one less, or the current one changed.
+-- What holds of some layers holds of the layers with one more, one less, or the current one
+-- changed.
 use Rattle.std.proofs.Common.{◌≡◌, ℕ, ◌+◌, ◌≤◌, List, [], ◌∷◌, length, refl, sym, ap, ◌∙◌, arith}
 use Rattle.std.proofs.lemmas.List.{length-map}
 use Rattle.std.proofs.lemmas.List.Sums.{sum_by-cons}
@@ -16,11 +17,13 @@ pub length-unmarked : {A : Type 0} (cells : List (Cell A)) → length (unmarked 
 length-unmarked cells = length-map (contents cells) old_cell ∙ length-map cells content_of
 
 -- marks that are cleared are cleared
-pub unmarked-unmarked : {A : Type 0} (cells : List (Cell A)) → unmarked cells ≡ unmarked (unmarked cells)
+pub unmarked-unmarked : {A : Type 0} (cells : List (Cell A)) →
+    unmarked cells ≡ unmarked (unmarked cells)
 unmarked-unmarked cells = ap old_cells (sym (contents-old_cells (contents cells)))
 
 -- one layer more has its seams more
-pub total_seams-cons : {A : Type 0} (l : Layer A) (ls : List (Layer A)) → total_seams (l ∷ ls) ≡ l.seams + total_seams ls
+pub total_seams-cons : {A : Type 0} (l : Layer A) (ls : List (Layer A)) →
+    total_seams (l ∷ ls) ≡ l.seams + total_seams ls
 total_seams-cons l ls = sum_by-cons seams_of l ls
 
 -- a shorter tape takes no more chunks
@@ -28,24 +31,29 @@ pub chunks_of_le : (less more : ℕ) → less ≤ more → chunks_of less ≤ ch
 chunks_of_le less more h = omega arith
 
 -- the current end lies within the tape
-pub current_end_within : {A : Type 0} (tape : ℕ) (layers : List (Layer A)) → AreWithin tape layers → current_end layers ≤ tape
+pub current_end_within : {A : Type 0} (tape : ℕ) (layers : List (Layer A)) → AreWithin tape layers →
+    current_end layers ≤ tape
 current_end_within tape [] within = omega arith
 current_end_within tape (l ∷ ls) within = within.0.1
 
 -- layers that are in order lie within any tape that the current one lies in
 pub ordered_within :
-    {A : Type 0} (less tape : ℕ) (layers : List (Layer A)) → AreOrdered layers → current_end layers ≤ less →
+    {A : Type 0} (less tape : ℕ) (layers : List (Layer A)) → AreOrdered layers →
+    current_end layers ≤ less →
     AreWithin tape layers → AreWithin less layers
 ordered_within less tape [] order below within = tt
 ordered_within less tape (l ∷ ls) order below within =
-    let below_it : current_end ls ≤ less = (let under : current_end ls ≤ l.end = order.0 in omega arith)
+    let below_it : current_end ls ≤ less =
+    (let under : current_end ls ≤ l.end = order.0 in omega arith)
     in ((within.0.0, below), ordered_within less tape ls order.1 below_it within.1)
 
 -- the current list of closed layers with a place in it isn't empty
-pub current_length_closed : {A : Type 0} (l : Layer A) (ls : List (Layer A)) → AreClosed (l ∷ ls) → 1 ≤ current_length (l ∷ ls)
+pub current_length_closed : {A : Type 0} (l : Layer A) (ls : List (Layer A)) → AreClosed (l ∷ ls) →
+    1 ≤ current_length (l ∷ ls)
 current_length_closed l ls closed = closed.0.not_empty
 
 -- the current layer changed leaves as many layers
-pub length-with_current : {A : Type 0} (f : Layer A → Layer A) (layers : List (Layer A)) → length (with_current f layers) ≡ length layers
+pub length-with_current : {A : Type 0} (f : Layer A → Layer A) (layers : List (Layer A)) →
+    length (with_current f layers) ≡ length layers
 length-with_current f [] = refl
 length-with_current f (l ∷ ls) = refl

@@ -18,20 +18,23 @@ use Rattle.looper_laws.proofs.Kept.Decks.{refused_keeps, no_run}
 use Rattle.looper_laws.proofs.Kept.Layers.{length-unmarked, total_seams-cons, chunks_of_le, current_end_within, ordered_within}
 
 -- an opening that isn't refused has a layer and seams left
-pub not_refused : (layers seams room : Bool) → first_refusal layers seams room ≡ Ok → (layers ≡ false) × (seams ≡ false)
+pub not_refused : (layers seams room : Bool) → first_refusal layers seams room ≡ Ok →
+    (layers ≡ false) × (seams ≡ false)
 not_refused true seams room ok = absurd (let none : ⊥ = Prim.cc in none)
 not_refused false true room ok = absurd (let none : ⊥ = Prim.cc in none)
 not_refused false false true ok = (refl, refl)
 not_refused false false false ok = (refl, refl)
 
 -- the new layer ends at the tape
-new_layer-end : {A : Type 0} (empty : Bool) (tape : ℕ) (layers : List (Layer A)) → (new_layer empty tape layers).end ≡ tape
+new_layer-end : {A : Type 0} (empty : Bool) (tape : ℕ) (layers : List (Layer A)) →
+    (new_layer empty tape layers).end ≡ tape
 new_layer-end true tape layers = refl
 new_layer-end false tape [] = refl
 new_layer-end false tape (l ∷ ls) = refl
 
 -- its seams are those that the opening counts
-new_layer-seams : {A : Type 0} (empty : Bool) (tape : ℕ) (layers : List (Layer A)) → (new_layer empty tape layers).seams ≡ opening_seams empty layers
+new_layer-seams : {A : Type 0} (empty : Bool) (tape : ℕ) (layers : List (Layer A)) →
+    (new_layer empty tape layers).seams ≡ opening_seams empty layers
 new_layer-seams true tape layers = refl
 new_layer-seams false tape [] = refl
 new_layer-seams false tape (l ∷ ls) = refl
@@ -60,21 +63,32 @@ copies tape pos (l ∷ ls) (closed, inside) = (
 )
 
 -- the new layer is in order
-opening_order : {A : Type 0} (empty : Bool) (s : Stack A) → AreOrdered s.layers → AreOrdered (opened empty s).layers
-opening_order empty s order = ((let e = new_layer-end empty (opening_tape s) s.layers in omega arith), order)
+opening_order : {A : Type 0} (empty : Bool) (s : Stack A) → AreOrdered s.layers →
+    AreOrdered (opened empty s).layers
+opening_order empty s order =
+    ((let e = new_layer-end empty (opening_tape s) s.layers in omega arith), order)
 
 -- a stack with a layer opened is within its limits
 opened_stack :
-    {A : Type 0} (reach : ℕ) (empty : Bool) (s : Stack A) → IsStack s → opening reach empty s ≡ Ok → IsStack (opened empty s)
+    {A : Type 0} (reach : ℕ) (empty : Bool) (s : Stack A) → IsStack s → opening reach empty s ≡ Ok →
+    IsStack (opened empty s)
 opened_stack reach empty s h ok =
     let room = not_refused _ _ _ ok
     in let few : length s.layers < max_layers = leb-false max_layers (length s.layers) room.0
-    in let seams : total_seams s.layers + opening_seams empty s.layers ≤ max_seams - 2 = ltb-false (max_seams - 2) (total_seams s.layers + opening_seams empty s.layers) room.1
+    in let seams : total_seams s.layers + opening_seams empty s.layers ≤ max_seams - 2 =
+    ltb-false (max_seams - 2) (total_seams s.layers + opening_seams empty s.layers) room.1
     in let new : Layer _ = new_layer empty (opening_tape s) s.layers
     in let under : current_end s.layers ≤ opening_tape s = omega arith
     in record {
-      layers_within =
-          ((new_layer_short empty (opening_tape s) s.tape s.layers h.layers_within, (let e : new.end ≡ opening_tape s = new_layer-end empty (opening_tape s) s.layers in omega arith)), ordered_within (opening_tape s) s.tape s.layers h.order under h.layers_within);
+      layers_within = (
+        (
+          new_layer_short empty (opening_tape s) s.tape s.layers h.layers_within,
+          (let e : new.end ≡ opening_tape s = new_layer-end empty (opening_tape s) s.layers in
+              omega arith),
+        ),
+        ordered_within (opening_tape s) s.tape s.layers h.order under
+            h.layers_within,
+      );
       redo_within = tt;
       pin_within = omega arith;
       count = omega arith;
@@ -84,57 +98,103 @@ opened_stack reach empty s h ok =
     }
 
 -- the tape of an opening takes no more chunks
-opening_reach : {A : Type 0} (reach : ℕ) (s : Stack A) → IsStack s → chunks_of s.tape ≤ reach → chunks_of (opening_tape s) ≤ reach
+opening_reach : {A : Type 0} (reach : ℕ) (s : Stack A) → IsStack s → chunks_of s.tape ≤ reach →
+    chunks_of (opening_tape s) ≤ reach
 opening_reach reach s h within =
     let pin : pinned_tape s.pin ≤ s.tape = h.pin_within
     in let end : current_end s.layers ≤ s.tape = current_end_within s.tape s.layers h.layers_within
-    in let less : chunks_of (opening_tape s) ≤ chunks_of s.tape = chunks_of_le (opening_tape s) s.tape (omega arith)
+    in let less : chunks_of (opening_tape s) ≤ chunks_of s.tape =
+    chunks_of_le (opening_tape s) s.tape (omega arith)
     in omega arith
 
 -- opening for `record`
 pub opens_record :
-    {A : Type 0} {a : Unchanged} {l : Loop A} (reach : ℕ) → Keeps a l → AreClosed l.stack.layers → opening reach true l.stack ≡ Ok →
+    {A : Type 0} {a : Unchanged} {l : Loop A} (reach : ℕ) → Keeps a l → AreClosed l.stack.layers →
+    opening reach true l.stack ≡ Ok →
     Keeps a (records Ok l)
 opens_record {l = l} reach h closed ok =
-    record { loop = record { in_mode = ((record { no_base = refl; no_base_seams = refl; no_cycle = refl }, closed), refl, refl, refl); run = tt; stack = opened_stack reach true l.stack h.loop.stack ok; refused = h.loop.refused }; reach = opening_reach _ l.stack h.loop.stack h.reach; pinned = h.pinned; controls = h.controls; press = h.press }
+    record {
+      loop = record {
+        in_mode = (
+          (record { no_base = refl; no_base_seams = refl; no_cycle = refl }, closed),
+          refl,
+          refl,
+          refl,
+        );
+        run = tt;
+        stack = opened_stack reach true l.stack h.loop.stack ok;
+        refused =
+            h.loop.refused;
+      };
+      reach = opening_reach _ l.stack h.loop.stack h.reach;
+      pinned =
+          h.pinned;
+      controls = h.controls;
+      press = h.press;
+    }
 
 -- layers that are written are those of such a mode
 pub written_in :
-    {A : Type 0} (mode : Mode) (layers redo : List (Layer A)) (pos : ℕ) (backward : Bool) → IsLayering mode backward →
+    {A : Type 0} (mode : Mode) (layers redo : List (Layer A)) (pos : ℕ) (backward : Bool) →
+    IsLayering mode backward →
     AreWritten layers redo pos → InMode mode layers redo pos backward
 written_in Overdubbing layers redo pos backward way h = h
 written_in Replacing layers redo pos backward way h = h
 written_in Substituting layers redo pos backward way h = h
 written_in Inserting layers redo pos backward way h = (h, way)
-written_in Multiplying layers redo pos backward way h = (h.0, h.1, (let below : pos < current_length layers = h.2 in omega arith), way)
+written_in Multiplying layers redo pos backward way h =
+    (h.0, h.1, (let below : pos < current_length layers = h.2 in omega arith), way)
 written_in _ layers redo pos backward way h = absurd way
 
 -- opening for another writing verb
 pub opens_over :
-    {A : Type 0} {a : Unchanged} {l : Loop A} (reach : ℕ) (mode : Mode) → IsLayering mode l.deck.backward → Keeps a l →
-    ArePlayable l.stack.layers l.deck.pos → opening reach false l.stack ≡ Ok → Keeps a (layers_on Ok mode l)
+    {A : Type 0} {a : Unchanged} {l : Loop A} (reach : ℕ) (mode : Mode) →
+    IsLayering mode l.deck.backward → Keeps a l →
+    ArePlayable l.stack.layers l.deck.pos → opening reach false l.stack ≡ Ok →
+    Keeps a (layers_on Ok mode l)
 opens_over {l = l} reach mode way h playable ok =
     let copied = copies (opening_tape l.stack) l.deck.pos l.stack.layers playable
-    in record { loop = record { in_mode = written_in mode (opened false l.stack).layers [] l.deck.pos l.deck.backward way ((copied.0, playable.0), refl, copied.1); run = no_run mode l.deck.pos l.deck.backward; stack = opened_stack reach false l.stack h.loop.stack ok; refused = h.loop.refused }; reach = opening_reach _ l.stack h.loop.stack h.reach; pinned = h.pinned; controls = h.controls; press = h.press }
+    in record {
+      loop =
+          record {
+            in_mode =
+                written_in mode (opened false l.stack).layers [] l.deck.pos l.deck.backward way
+                ((copied.0, playable.0), refl, copied.1);
+            run = no_run mode l.deck.pos l.deck.backward;
+            stack = opened_stack reach false l.stack h.loop.stack ok;
+            refused = h.loop.refused;
+          };
+      reach = opening_reach _ l.stack h.loop.stack h.reach;
+      pinned = h.pinned;
+      controls =
+          h.controls;
+      press = h.press;
+    }
 
 -- starting `record`, by what becomes of the opening
 records_as :
-    {A : Type 0} {a : Unchanged} {l : Loop A} (answer : Started) → (answer ≡ Ok → Keeps a (records Ok l)) → Keeps a l →
+    {A : Type 0} {a : Unchanged} {l : Loop A} (answer : Started) →
+    (answer ≡ Ok → Keeps a (records Ok l)) → Keeps a l →
     Keeps a (records answer l)
 records_as Ok opens h = opens refl
 records_as _ opens h = refused_keeps h
 
-pub records_keeps : {A : Type 0} {a : Unchanged} {l : Loop A} (reach : ℕ) → Keeps a l → AreClosed l.stack.layers → Keeps a (records (opening reach true l.stack) l)
-records_keeps {l = l} reach h closed = records_as (opening reach true l.stack) (opens_record reach h closed) h
+pub records_keeps : {A : Type 0} {a : Unchanged} {l : Loop A} (reach : ℕ) → Keeps a l →
+    AreClosed l.stack.layers → Keeps a (records (opening reach true l.stack) l)
+records_keeps {l = l} reach h closed =
+    records_as (opening reach true l.stack) (opens_record reach h closed) h
 
 -- starting another writing verb, by what becomes of the opening
 layers_on_as :
-    {A : Type 0} {a : Unchanged} {l : Loop A} (answer : Started) (mode : Mode) → (answer ≡ Ok → Keeps a (layers_on Ok mode l)) →
+    {A : Type 0} {a : Unchanged} {l : Loop A} (answer : Started) (mode : Mode) →
+    (answer ≡ Ok → Keeps a (layers_on Ok mode l)) →
     Keeps a l → Keeps a (layers_on answer mode l)
 layers_on_as Ok mode opens h = opens refl
 layers_on_as _ mode opens h = refused_keeps h
 
 pub starts_keeps :
-    {A : Type 0} {a : Unchanged} {l : Loop A} (reach : ℕ) (mode : Mode) → IsLayering mode l.deck.backward → Keeps a l →
+    {A : Type 0} {a : Unchanged} {l : Loop A} (reach : ℕ) (mode : Mode) →
+    IsLayering mode l.deck.backward → Keeps a l →
     ArePlayable l.stack.layers l.deck.pos → Keeps a (starts mode reach l)
-starts_keeps {l = l} reach mode way h playable = layers_on_as (opening reach false l.stack) mode (opens_over reach mode way h playable) h
+starts_keeps {l = l} reach mode way h playable =
+    layers_on_as (opening reach false l.stack) mode (opens_over reach mode way h playable) h

@@ -16,7 +16,8 @@ not_both b is isnt = Prim.cc
 
 -- outside the writing modes all layers are closed
 pub closed_layers :
-    {A : Type 0} (mode : Mode) (layers redo : List (Layer A)) (pos : ℕ) (backward : Bool) → is_writing mode ≡ false →
+    {A : Type 0} (mode : Mode) (layers redo : List (Layer A)) (pos : ℕ) (backward : Bool) →
+    is_writing mode ≡ false →
     InMode mode layers redo pos backward → AreClosed layers
 closed_layers Off layers redo pos backward quiet h = subst (λ ls. AreClosed ls) (sym h.0.0) tt
 closed_layers WaitStart [] redo pos backward quiet h = tt
@@ -31,7 +32,8 @@ closed_layers _ layers redo pos backward quiet h = h.0.0
 
 -- and all redo layers
 pub closed_redo :
-    {A : Type 0} (mode : Mode) (layers redo : List (Layer A)) (pos : ℕ) (backward : Bool) → is_writing mode ≡ false →
+    {A : Type 0} (mode : Mode) (layers redo : List (Layer A)) (pos : ℕ) (backward : Bool) →
+    is_writing mode ≡ false →
     InMode mode layers redo pos backward → AreClosed redo
 closed_redo Recording layers redo pos backward quiet h = absurd (not_both true refl quiet)
 closed_redo Overdubbing layers redo pos backward quiet h = absurd (not_both true refl quiet)
@@ -43,10 +45,12 @@ closed_redo _ layers redo pos backward quiet h = h.1
 
 -- there pos lies in the list of the current layer
 pub waiting_layers :
-    {A : Type 0} (mode : Mode) (layers redo : List (Layer A)) (pos : ℕ) (backward : Bool) → is_writing mode ≡ false →
+    {A : Type 0} (mode : Mode) (layers redo : List (Layer A)) (pos : ℕ) (backward : Bool) →
+    is_writing mode ≡ false →
     InMode mode layers redo pos backward → AreWaiting layers pos
 waiting_layers Off [] redo pos backward quiet h = h.0.1
-waiting_layers Off (l ∷ ls) redo pos backward quiet h = absurd (let none : ⊥ = Prim.cc (h.0.0) in none)
+waiting_layers Off (l ∷ ls) redo pos backward quiet h =
+    absurd (let none : ⊥ = Prim.cc (h.0.0) in none)
 waiting_layers WaitStart layers redo pos backward quiet h = h.0
 waiting_layers Recording layers redo pos backward quiet h = absurd (not_both true refl quiet)
 waiting_layers Overdubbing layers redo pos backward quiet h = absurd (not_both true refl quiet)
@@ -59,7 +63,8 @@ waiting_layers _ (l ∷ ls) redo pos backward quiet h = h.0
 
 -- no run goes on there
 pub quiet_run :
-    (mode : Mode) (run : Option LastWrite) (pos : ℕ) (backward : Bool) → is_writing mode ≡ false → IsRun mode run pos backward →
+    (mode : Mode) (run : Option LastWrite) (pos : ℕ) (backward : Bool) → is_writing mode ≡ false →
+    IsRun mode run pos backward →
     run ≡ None
 quiet_run Recording run pos backward quiet h = absurd (not_both true refl quiet)
 quiet_run Overdubbing run pos backward quiet h = absurd (not_both true refl quiet)
@@ -70,7 +75,8 @@ quiet_run Substituting run pos backward quiet h = absurd (not_both true refl qui
 quiet_run _ run pos backward quiet h = h
 
 pub run_in_quiet :
-    (mode : Mode) (run : Option LastWrite) (pos : ℕ) (backward : Bool) → is_writing mode ≡ false → run ≡ None →
+    (mode : Mode) (run : Option LastWrite) (pos : ℕ) (backward : Bool) → is_writing mode ≡ false →
+    run ≡ None →
     IsRun mode run pos backward
 run_in_quiet Recording run pos backward quiet h = absurd (not_both true refl quiet)
 run_in_quiet Overdubbing run pos backward quiet h = absurd (not_both true refl quiet)
@@ -82,8 +88,10 @@ run_in_quiet _ run pos backward quiet h = h
 
 -- a list that isn't empty can be played in each of these modes but Off
 pub in_quiet :
-    {A : Type 0} (mode : Mode) (l : Layer A) (ls redo : List (Layer A)) (pos : ℕ) (backward : Bool) → is_writing mode ≡ false →
-    is_off mode ≡ false → ArePlayable (l ∷ ls) pos → AreClosed redo → InMode mode (l ∷ ls) redo pos backward
+    {A : Type 0} (mode : Mode) (l : Layer A) (ls redo : List (Layer A)) (pos : ℕ)
+    (backward : Bool) → is_writing mode ≡ false →
+    is_off mode ≡ false → ArePlayable (l ∷ ls) pos → AreClosed redo →
+    InMode mode (l ∷ ls) redo pos backward
 in_quiet Off l ls redo pos backward quiet on h closed = absurd (not_both true refl on)
 in_quiet Recording l ls redo pos backward quiet on h closed = absurd (not_both true refl quiet)
 in_quiet Overdubbing l ls redo pos backward quiet on h closed = absurd (not_both true refl quiet)
@@ -110,7 +118,8 @@ resting_is_quiet _ rests = absurd rests
 
 -- its list can be played
 pub playable :
-    {A : Type 0} (mode : Mode) (layers redo : List (Layer A)) (pos : ℕ) (backward : Bool) → IsResting mode →
+    {A : Type 0} (mode : Mode) (layers redo : List (Layer A)) (pos : ℕ) (backward : Bool) →
+    IsResting mode →
     InMode mode layers redo pos backward → ArePlayable layers pos × AreClosed redo
 playable Playing layers redo pos backward rests h = h
 playable Muted layers redo pos backward rests h = h
@@ -119,7 +128,8 @@ playable Paused layers redo pos backward rests h = h
 playable _ layers redo pos backward rests h = absurd rests
 
 pub in_resting :
-    {A : Type 0} (mode : Mode) (layers redo : List (Layer A)) (pos : ℕ) (backward : Bool) → IsResting mode →
+    {A : Type 0} (mode : Mode) (layers redo : List (Layer A)) (pos : ℕ) (backward : Bool) →
+    IsResting mode →
     ArePlayable layers pos × AreClosed redo → InMode mode layers redo pos backward
 in_resting Playing layers redo pos backward rests h = h
 in_resting Muted layers redo pos backward rests h = h
@@ -130,16 +140,23 @@ in_resting _ layers redo pos backward rests h = absurd rests
 -- a loop goes from one such mode to another, to another place in its list and another direction
 pub rests_again :
     {A :
-    Type 0} {a : Unchanged} {l : Loop A} (mode : Mode) (pos : ℕ) (backward : Bool) → IsResting l.deck.mode → IsResting mode → pos < length_of l → Keeps a l →
+    Type 0} {a : Unchanged} {l : Loop A} (mode : Mode) (pos : ℕ) (backward : Bool) →
+    IsResting l.deck.mode → IsResting mode → pos < length_of l → Keeps a l →
     Keeps a (record l { deck = record l.deck { mode = mode; pos = pos; backward = backward } })
 rests_again {l = l} mode pos backward before now inside h =
-    let can : ArePlayable l.stack.layers l.deck.pos × AreClosed l.stack.redo = playable l.deck.mode l.stack.layers l.stack.redo l.deck.pos l.deck.backward before h.loop.in_mode
-    in let none : l.stack.run ≡ None = quiet_run l.deck.mode l.stack.run l.deck.pos l.deck.backward (resting_is_quiet l.deck.mode before) h.loop.run
+    let can : ArePlayable l.stack.layers l.deck.pos × AreClosed l.stack.redo =
+    playable l.deck.mode l.stack.layers l.stack.redo l.deck.pos l.deck.backward before
+    h.loop.in_mode
+    in let none : l.stack.run ≡ None = quiet_run l.deck.mode l.stack.run l.deck.pos l.deck.backward
+    (resting_is_quiet l.deck.mode before) h.loop.run
     in with_deck (record l.deck { mode = mode; pos = pos; backward = backward }) l.stack.run h
     (in_resting mode l.stack.layers l.stack.redo pos backward now ((can.0.0, inside), can.1))
     (run_in_quiet mode l.stack.run pos backward (resting_is_quiet mode now) none)
     refl
 
 -- it has a place in its list
-pub resting_inside : {A : Type 0} {a : Unchanged} {l : Loop A} → IsResting l.deck.mode → Keeps a l → l.deck.pos < length_of l
-resting_inside {l = l} rests h = (playable l.deck.mode l.stack.layers l.stack.redo l.deck.pos l.deck.backward rests h.loop.in_mode).0.1
+pub resting_inside : {A : Type 0} {a : Unchanged} {l : Loop A} → IsResting l.deck.mode → Keeps a l →
+    l.deck.pos < length_of l
+resting_inside {l = l} rests h =
+    (playable l.deck.mode l.stack.layers l.stack.redo l.deck.pos l.deck.backward rests
+    h.loop.in_mode).0.1

@@ -7,4 +7,5 @@ use Rattle.looper_laws.specs.Questions.{SelectsALoop}
 use Rattle.looper_laws.proofs.Kept.Settings.{selected_range}
 
 pub selects : (frame : ℕ) (l : Looper) → IsLooper frame l → SelectsALoop l
-selects frame l h = ltb-true l.globals.selected_loop_num (length l.tracks) (selected_range (length l.tracks) l.globals h.globals)
+selects frame l h = ltb-true l.globals.selected_loop_num (length l.tracks)
+    (selected_range (length l.tracks) l.globals h.globals)

@@ -21,7 +21,8 @@ either_way : {A : Type 0} (test : Bool) (a : A) → cond test a a ≡ a
 either_way true a = refl
 either_way false a = refl
 
-pub applied_nothing : (frame : ℕ) (e : Entry) (command : Command) (l : Looper) → performed command frame e l ≡ l → e.command ≡ command → applied frame e l ≡ l
+pub applied_nothing : (frame : ℕ) (e : Entry) (command : Command) (l : Looper) →
+    performed command frame e l ≡ l → e.command ≡ command → applied frame e l ≡ l
 applied_nothing frame e command l nothing its =
     ap (λ command. cond (is_taken e l) (performed command frame e l) l) its
     ∙ (ap (λ now. cond (is_taken e l) now l) nothing ∙ either_way (is_taken e l) l)
@@ -30,27 +31,37 @@ applied_nothing frame e command l nothing its =
 pub counted : (l : Loop Sound) → CountsRefusal l (refused_once l)
 counted l = record { refused = refl; deck = refl; controls = refl; stack = refl }
 
-pub records_refused : (answer : Started) (l : Loop Sound) → answer ≢ Ok → CountsRefusal l (records answer l)
+pub records_refused : (answer : Started) (l : Loop Sound) → answer ≢ Ok →
+    CountsRefusal l (records answer l)
 records_refused Ok l refused = absurd (refused refl)
 records_refused _ l refused = counted l
 
-pub starts_record_refused : (reach : ℕ) (l : Loop Sound) → l.controls.rec_thresh ≡ 0 → opening reach true l.stack ≢ Ok → CountsRefusal l (starts_record reach l)
+pub starts_record_refused : (reach : ℕ) (l : Loop Sound) → l.controls.rec_thresh ≡ 0 →
+    opening reach true l.stack ≢ Ok → CountsRefusal l (starts_record reach l)
 starts_record_refused reach l quiet refused =
-    subst (λ thresh. CountsRefusal l (cond (nat_lt 0 thresh) (in_mode WaitStart l) (records (opening reach true l.stack) l))) (sym quiet) (records_refused (opening reach true l.stack) l refused)
+    subst (λ thresh. CountsRefusal l
+    (cond (nat_lt 0 thresh) (in_mode WaitStart l) (records (opening reach true l.stack) l)))
+    (sym quiet) (records_refused (opening reach true l.stack) l refused)
 
-layers_on_refused : (answer : Started) (mode : Mode) (l : Loop Sound) → answer ≢ Ok → CountsRefusal l (layers_on answer mode l)
+layers_on_refused : (answer : Started) (mode : Mode) (l : Loop Sound) → answer ≢ Ok →
+    CountsRefusal l (layers_on answer mode l)
 layers_on_refused Ok mode l refused = absurd (refused refl)
 layers_on_refused _ mode l refused = counted l
 
-pub starts_refused : (reach : ℕ) (mode : Mode) (l : Loop Sound) → opening reach false l.stack ≢ Ok → CountsRefusal l (starts mode reach l)
+pub starts_refused : (reach : ℕ) (mode : Mode) (l : Loop Sound) → opening reach false l.stack ≢ Ok →
+    CountsRefusal l (starts mode reach l)
 starts_refused reach mode l refused = layers_on_refused (opening reach false l.stack) mode l refused
 
 -- at a loud frame
-wakes_refused : (answer : Started) (l : Loop Sound) → answer ≢ Ok → wakes_as answer l ≡ leaves_wait (refused_once l)
+wakes_refused : (answer : Started) (l : Loop Sound) → answer ≢ Ok →
+    wakes_as answer l ≡ leaves_wait (refused_once l)
 wakes_refused Ok l refused = absurd (refused refl)
 wakes_refused _ l refused = refl
 
-pub awake_refused : (x : Sound) (reach : ℕ) (l : Loop Sound) → l.deck.mode ≡ WaitStart → l.controls.rec_thresh ≤ loudness x → opening reach true l.stack ≢ Ok → awake x reach l ≡ leaves_wait (refused_once l)
+pub awake_refused : (x : Sound) (reach : ℕ) (l : Loop Sound) → l.deck.mode ≡ WaitStart →
+    l.controls.rec_thresh ≤ loudness x → opening reach true l.stack ≢ Ok →
+    awake x reach l ≡ leaves_wait (refused_once l)
 awake_refused x reach l waits loud refused =
     ap (λ mode. awake_in mode (nat_le l.controls.rec_thresh (loudness x)) reach l) waits
-    ∙ (ap (λ is. awake_in WaitStart is reach l) (le-leb l.controls.rec_thresh (loudness x) loud) ∙ wakes_refused (opening reach true l.stack) l refused)
+    ∙ (ap (λ is. awake_in WaitStart is reach l) (le-leb l.controls.rec_thresh (loudness x) loud)
+    ∙ wakes_refused (opening reach true l.stack) l refused)

@@ -45,10 +45,18 @@ pub record IsDone {A : Type 0} (reach : ℕ) (old new : Stack A) : Type 0 where
 pub same : {A : Type 0} {reach : ℕ} {s : Stack A} → IsSame reach s s
 same = record { layers = refl; redo = refl; reaches = λ h. h }
 
-pub same_touched : {A : Type 0} {reach : ℕ} {old new : Stack A} → IsSame reach old new → IsTouched reach old new
-same_touched h = record { below = ap without_current h.layers; count = ap length h.layers; redo = h.redo; reaches = h.reaches }
+pub same_touched : {A : Type 0} {reach : ℕ} {old new : Stack A} → IsSame reach old new →
+    IsTouched reach old new
+same_touched h = record {
+  below = ap without_current h.layers;
+  count = ap length h.layers;
+  redo =
+      h.redo;
+  reaches = h.reaches;
+}
 
-pub touched_on : {A : Type 0} {reach : ℕ} {old now new : Stack A} → IsTouched reach old now → IsTouched reach now new → IsTouched reach old new
+pub touched_on : {A : Type 0} {reach : ℕ} {old now new : Stack A} → IsTouched reach old now →
+    IsTouched reach now new → IsTouched reach old new
 touched_on h k =
     record {
       below = k.below ∙ h.below;
@@ -57,7 +65,8 @@ touched_on h k =
       reaches = λ w. k.reaches (h.reaches w);
     }
 
-pub settled_same : {A : Type 0} {reach : ℕ} {old now new : Stack A} → IsSettled reach old now → IsSame reach now new → IsSettled reach old new
+pub settled_same : {A : Type 0} {reach : ℕ} {old now new : Stack A} → IsSettled reach old now →
+    IsSame reach now new → IsSettled reach old new
 settled_same h k =
     record {
       current = h.current;
@@ -72,16 +81,19 @@ abbrev pub first_of : {A : Type 0} → List (Layer A) → List (Layer A)
 first_of [] = []
 first_of (l ∷ ls) = l ∷ []
 
-pub first_of-count : {A : Type 0} (layers : List (Layer A)) → length (first_of layers) ≤ min 1 (length layers)
+pub first_of-count : {A : Type 0} (layers : List (Layer A)) →
+    length (first_of layers) ≤ min 1 (length layers)
 first_of-count [] = omega arith
 first_of-count (l ∷ ls) = omega arith
 
-pub first_of-split : {A : Type 0} (layers : List (Layer A)) → layers ≡ first_of layers ++ without_current layers
+pub first_of-split : {A : Type 0} (layers : List (Layer A)) →
+    layers ≡ first_of layers ++ without_current layers
 first_of-split [] = refl
 first_of-split (l ∷ ls) = refl
 
 -- what touches the current layer settles it
-pub touched_settled : {A : Type 0} {reach : ℕ} {old new : Stack A} → IsTouched reach old new → IsSettled reach old new
+pub touched_settled : {A : Type 0} {reach : ℕ} {old new : Stack A} → IsTouched reach old new →
+    IsSettled reach old new
 touched_settled {old = old} {new = new} h =
     record {
       current = first_of new.layers;
@@ -91,7 +103,8 @@ touched_settled {old = old} {new = new} h =
       reaches = h.reaches;
     }
 
-pub touched_then_settled : {A : Type 0} {reach : ℕ} {old now new : Stack A} → IsTouched reach old now → IsSettled reach now new → IsSettled reach old new
+pub touched_then_settled : {A : Type 0} {reach : ℕ} {old now new : Stack A} →
+    IsTouched reach old now → IsSettled reach now new → IsSettled reach old new
 touched_then_settled {old = old} {now = now} {new = new} h k =
     record {
       current = k.current;
@@ -101,13 +114,17 @@ touched_then_settled {old = old} {now = now} {new = new} h k =
       reaches = λ w. k.reaches (h.reaches w);
     }
 
-pub moved_on : {A : Type 0} {reach : ℕ} {old now new : Stack A} → IsMoved reach old now → IsMoved reach now new → IsMoved reach old new
+pub moved_on : {A : Type 0} {reach : ℕ} {old now new : Stack A} → IsMoved reach old now →
+    IsMoved reach now new → IsMoved reach old new
 moved_on h k = record { row = k.row ∙ h.row; reaches = λ w. k.reaches (h.reaches w) }
 
 -- what settles and then moves leaves the others
-pub settled_then_moved : {A : Type 0} {reach : ℕ} {old now new : Stack A} → IsSettled reach old now → IsMoved reach now new → IsDone reach old new
+pub settled_then_moved : {A : Type 0} {reach : ℕ} {old now new : Stack A} →
+    IsSettled reach old now → IsMoved reach now new → IsDone reach old new
 settled_then_moved {old = old} {now = now} h k =
-    let row : row_of now ≡ in_a_row old.redo (h.current ++ without_current old.layers) = (ap (λ layers. in_a_row now.redo layers) h.layers ∙ ap (λ redo. in_a_row redo (h.current ++ without_current old.layers)) h.redo)
+    let row : row_of now ≡ in_a_row old.redo (h.current ++ without_current old.layers) =
+    (ap (λ layers. in_a_row now.redo layers) h.layers
+    ∙ ap (λ redo. in_a_row redo (h.current ++ without_current old.layers)) h.redo)
     in record {
       others = inl (record { current = h.current; at_most_one = h.at_most_one; row = k.row ∙ row });
       chunks = λ w. (k.reaches (h.reaches w)).chunks;
@@ -116,5 +133,6 @@ settled_then_moved {old = old} {now = now} h k =
 pub moved_itself : {A : Type 0} {reach : ℕ} {s : Stack A} → IsMoved reach s s
 moved_itself = record { row = refl; reaches = λ w. w }
 
-pub settled_done : {A : Type 0} {reach : ℕ} {old new : Stack A} → IsSettled reach old new → IsDone reach old new
+pub settled_done : {A : Type 0} {reach : ℕ} {old new : Stack A} → IsSettled reach old new →
+    IsDone reach old new
 settled_done h = settled_then_moved h moved_itself

@@ -15,7 +15,8 @@ at_most_one (Some x) = omega arith
 
 -- what some entries give
 pub entered-few : (frame : ℕ) (es : List Entry) (l : Looper) →
-    (length (entered frame es l).replies ≤ length es) × (length (entered frame es l).saves ≤ length es)
+    (length (entered frame es l).replies ≤ length es)
+    × (length (entered frame es l).saves ≤ length es)
 entered-few frame [] l = (omega arith, omega arith)
 entered-few frame (e ∷ es) l =
     let next = applied frame e l in
@@ -29,18 +30,21 @@ entered-few frame (e ∷ es) l =
     (omega arith, omega arith)
 
 -- those that are due and those that aren't are all of them
-due_and_later : (frame : ℕ) (es : List Entry) → length (due frame es) + length (later frame es) ≡ length es
+due_and_later : (frame : ℕ) (es : List Entry) →
+    length (due frame es) + length (later frame es) ≡ length es
 due_and_later frame [] = refl
 due_and_later frame (e ∷ es) = by_test (nat_le e.frame frame) (due_and_later frame es)
   where
     by_test : (b : Bool) → length (due frame es) + length (later frame es) ≡ length es →
-        length (if b then e ∷ due frame es else []) + length (if b then later frame es else e ∷ es) ≡ length (e ∷ es)
+        length (if b then e ∷ due frame es else []) + length (if b then later frame es else e ∷ es)
+        ≡ length (e ∷ es)
     by_test true rest = omega arith
     by_test false rest = omega arith
 
 -- what some frames give, beside the entries that they leave
 pub begun-few : (frame : ℕ) (es : List Entry) (xs : List Sound) (l : Looper) →
-    (length (begun frame es xs l).replies + length (begun frame es xs l).left ≤ length es) × (length (begun frame es xs l).saves + length (begun frame es xs l).left ≤ length es)
+    (length (begun frame es xs l).replies + length (begun frame es xs l).left ≤ length es)
+    × (length (begun frame es xs l).saves + length (begun frame es xs l).left ≤ length es)
 begun-few frame es [] l = (omega arith, omega arith)
 begun-few frame es (x ∷ xs) l =
     let before = entered frame (due frame es) l in
@@ -59,7 +63,8 @@ begun-few frame es (x ∷ xs) l =
 
 -- what a run gives
 pub run_from-few : (frame : ℕ) (es : List Entry) (xs : List Sound) (l : Looper) →
-    (length (run_from frame es xs l).replies ≤ length es) × (length (run_from frame es xs l).saves ≤ length es)
+    (length (run_from frame es xs l).replies ≤ length es)
+    × (length (run_from frame es xs l).saves ≤ length es)
 run_from-few frame es xs l =
     let first = begun frame es xs l in
     let last = entered (frame + length xs) first.left first.looper in

@@ -25,8 +25,11 @@ pub before_is_before : (before : List Entry) (e : Entry) (after : List Entry) �
     FramesNeverFall 0 (before ++ e ∷ after) → All (λ b. b.frame ≤ e.frame) before
 before_is_before [] e after never = All-nil (λ b. b.frame ≤ e.frame)
 before_is_before (b ∷ before) e after never =
-    let later_ones = all_right (λ x. b.frame ≤ x.frame) before (e ∷ after) (first_is_first b (before ++ e ∷ after) never) in
-    All-cons (λ b. b.frame ≤ e.frame) b before (All-head (λ x. b.frame ≤ x.frame) e after later_ones) (before_is_before before e after (others_never_fall b (before ++ e ∷ after) never))
+    let later_ones = all_right (λ x. b.frame ≤ x.frame) before (e ∷ after)
+    (first_is_first b (before ++ e ∷ after) never) in
+    All-cons (λ b. b.frame ≤ e.frame) b before
+    (All-head (λ x. b.frame ≤ x.frame) e after later_ones)
+    (before_is_before before e after (others_never_fall b (before ++ e ∷ after) never))
 
 -- and those behind it aren't before it
 pub behind_is_behind : (before : List Entry) (e : Entry) (after : List Entry) →
@@ -45,43 +48,57 @@ with_entered-one frame e l next = simp append-nil
 abbrev around_at : ℕ → List Entry → Entry → List Entry → List Sound → List Sound → Looper → Ran
 around_at frame before e after xs ys l =
     let first = run before xs l in
-    joined first (given_then (reply e first.looper) (save e first.looper) (run_from frame after ys (applied frame e first.looper)))
+    joined first (given_then (reply e first.looper) (save e first.looper)
+    (run_from frame after ys (applied frame e first.looper)))
 
-around_inside : (before : List Entry) (e : Entry) (after : List Entry) (xs ys : List Sound) (l : Looper) →
+around_inside : (before : List Entry) (e : Entry) (after : List Entry) (xs ys : List Sound)
+    (l : Looper) →
     e.frame ≡ length xs → FramesNeverFall 0 (before ++ e ∷ after) →
     run (before ++ e ∷ after) (xs ++ ys) l ≡ around_at (length xs) before e after xs ys l
 around_inside before e after xs ys l here never =
     let there = (run before xs l).looper in
-    let up_to = All-weaker (λ b. b.frame ≤ e.frame) (λ b. b.frame ≤ length xs) (λ b h. omega arith) before (before_is_before before e after never) in
-    let from = All-weaker (λ b. e.frame ≤ b.frame) (λ b. length xs ≤ b.frame) (λ b h. omega arith) (e ∷ after) (behind_is_behind before e after never) in
+    let up_to = All-weaker (λ b. b.frame ≤ e.frame) (λ b. b.frame ≤ length xs) (λ b h. omega arith)
+    before (before_is_before before e after never) in
+    let from = All-weaker (λ b. e.frame ≤ b.frame) (λ b. length xs ≤ b.frame) (λ b h. omega arith)
+    (e ∷ after) (behind_is_behind before e after never) in
     let itself : e.frame ≤ length xs = omega arith in
-    let one = All-cons (λ b. b.frame ≤ length xs) e [] itself (All-nil (λ b. b.frame ≤ length xs)) in
+    let one = All-cons (λ b. b.frame ≤ length xs) e [] itself
+    (All-nil (λ b. b.frame ≤ length xs)) in
     run-cut before (e ∷ after) xs ys l up_to from
-    ∙ ap (joined (run before xs l)) (run_from-due (length xs) (e ∷ []) after ys there one ∙ with_entered-one (length xs) e there _)
+    ∙ ap (joined (run before xs l)) (run_from-due (length xs) (e ∷ []) after ys there one
+    ∙ with_entered-one (length xs) e there _)
 
-around_end : (before : List Entry) (e : Entry) (after : List Entry) (input : List Sound) (l : Looper) →
+around_end : (before : List Entry) (e : Entry) (after : List Entry) (input : List Sound)
+    (l : Looper) →
     length input ≤ e.frame → FramesNeverFall 0 (before ++ e ∷ after) →
     run (before ++ e ∷ after) input l ≡ around_at (length input) before e after input [] l
 around_end before e after input l past never =
     let there = (run before input l).looper in
-    let from = All-weaker (λ b. e.frame ≤ b.frame) (λ b. length input ≤ b.frame) (λ b h. omega arith) (e ∷ after) (behind_is_behind before e after never) in
+    let from = All-weaker (λ b. e.frame ≤ b.frame) (λ b. length input ≤ b.frame)
+    (λ b h. omega arith) (e ∷ after) (behind_is_behind before e after never) in
     run-more before (e ∷ after) input l from
-    ∙ ap (joined (run before input l)) (run_from-due_no_frames (length input) (e ∷ []) after there ∙ with_entered-one (length input) e there _)
+    ∙ ap (joined (run before input l)) (run_from-due_no_frames (length input) (e ∷ []) after there
+    ∙ with_entered-one (length input) e there _)
 
 -- a run is cut at an entry's place
-pub run-around : (before : List Entry) (e : Entry) (after : List Entry) (input : List Sound) (l : Looper) →
-    FramesNeverFall 0 (before ++ e ∷ after) → run (before ++ e ∷ after) input l ≡ run_around before e after input l
+pub run-around : (before : List Entry) (e : Entry) (after : List Entry) (input : List Sound)
+    (l : Looper) →
+    FramesNeverFall 0 (before ++ e ∷ after) →
+    run (before ++ e ∷ after) input l ≡ run_around before e after input l
 run-around before e after input l never = ⊎_elim past inside (cases_lt (length input) e.frame)
   where
-    past : length input < e.frame → run (before ++ e ∷ after) input l ≡ run_around before e after input l
+    past : length input < e.frame →
+        run (before ++ e ∷ after) input l ≡ run_around before e after input l
     past is =
         let long : length input ≤ e.frame = omega arith in
         let whole = take_all e.frame input long in
         let none = drop_of_length-le input long in
         let place : min e.frame (length input) ≡ length input = omega arith in
-        around_end before e after input l long never ∙ (λ i. around_at (sym place i) before e after (sym whole i) (sym none i) l)
+        around_end before e after input l long never
+        ∙ (λ i. around_at (sym place i) before e after (sym whole i) (sym none i) l)
 
-    inside : e.frame ≤ length input → run (before ++ e ∷ after) input l ≡ run_around before e after input l
+    inside : e.frame ≤ length input →
+        run (before ++ e ∷ after) input l ≡ run_around before e after input l
     inside is =
         let cut = length-take e.frame input in
         let here : e.frame ≡ length (take e.frame input) = omega arith in
@@ -90,7 +107,8 @@ run-around before e after input l never = ⊎_elim past inside (cases_lt (length
         ∙ ap (λ n. around_at n before e after (take e.frame input) (drop e.frame input) l) cut
 
 -- a list begins with each of its first parts
-begins_with : {A : Type 0} (longer shorter rest : List A) → longer ≡ shorter ++ rest → BeginsWith longer shorter
+begins_with : {A : Type 0} (longer shorter rest : List A) → longer ≡ shorter ++ rest →
+    BeginsWith longer shorter
 begins_with longer shorter rest is = ap (take (length shorter)) is ∙ take-append_seam shorter rest
 
 -- a longer run begins with the saves of a shorter one

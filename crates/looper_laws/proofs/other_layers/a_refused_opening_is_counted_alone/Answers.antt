@@ -18,4 +18,5 @@ pub returns-clause-loud : goal.returns-clause-loud
 returns-clause-loud c = awake_refused
 
 pub returns-clause-waiting_verbs : goal.returns-clause-waiting_verbs
-returns-clause-waiting_verbs c verb mode reach l opens waits some refused = wait_refused verb mode reach l opens waits some refused
+returns-clause-waiting_verbs c verb mode reach l opens waits some refused =
+    wait_refused verb mode reach l opens waits some refused

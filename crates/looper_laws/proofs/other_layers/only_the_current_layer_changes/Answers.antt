@@ -8,10 +8,12 @@ use Rattle.looper_laws.proofs.Others.Tracks.{applied_stays, at_boundaries_stays,
 use Rattle.looper_laws.proofs.other_layers.only_the_current_layer_changes.Goals as goal
 
 pub returns-clause-verbs : goal.returns-clause-verbs
-returns-clause-verbs c verb reach l = (let done : IsDone reach l.stack (acts verb reach l).stack = acts_done verb l in done.others)
+returns-clause-verbs c verb reach l =
+    (let done : IsDone reach l.stack (acts verb reach l).stack = acts_done verb l in done.others)
 
 pub returns-clause-frames : goal.returns-clause-frames
-returns-clause-frames c x reach l = (let done : IsDone reach l.stack (frame_later x reach l).stack = frame_done x l in done.others)
+returns-clause-frames c x reach l =
+    (let done : IsDone reach l.stack (frame_later x reach l).stack = frame_done x l in done.others)
 
 pub returns-clause-entries : goal.returns-clause-entries
 returns-clause-entries c = applied_stays

@@ -11,7 +11,8 @@ pub returns-clause-entries : goal.returns-clause-entries
 returns-clause-entries c s chunks lists es more xs h = runs_entered s chunks lists h es more xs
 
 pub returns-clause-end : goal.returns-clause-end
-returns-clause-end c s chunks lists es xs h = runs_entered s chunks lists h es (begun 0 es xs (start s chunks lists)).left xs
+returns-clause-end c s chunks lists es xs h =
+    runs_entered s chunks lists h es (begun 0 es xs (start s chunks lists)).left xs
 
 pub returns-clause-begun : goal.returns-clause-begun
 returns-clause-begun c frame es xs l h = begun_keeps frame es xs l h

@@ -6,4 +6,5 @@ pub returns-clause-once : goal.returns-clause-once
 returns-clause-once c = start-once
 
 pub returns-clause-counted : goal.returns-clause-counted
-returns-clause-counted c = λ settings chunks initial es input test. start-count test settings chunks initial es input
+returns-clause-counted c = λ settings chunks initial es input test.
+    start-count test settings chunks initial es input

@@ -6,7 +6,8 @@ use Rattle.looper_laws.proofs.Runs.Comes.{replies_come, start-answers}
 use Rattle.looper_laws.proofs.replies.each_reply_answers_a_get_or_a_save_before_it.Goals as goal
 
 pub returns-clause-made : goal.returns-clause-made
-returns-clause-made c = λ before e after input l never. ap (λ (r : Ran). r.replies) (run-around before e after input l never)
+returns-clause-made c = λ before e after input l never.
+    ap (λ (r : Ran). r.replies) (run-around before e after input l never)
 
 pub returns-clause-comes : goal.returns-clause-comes
 returns-clause-comes c = replies_come

@@ -21,9 +21,11 @@ returns-clause-from c frame es xs l h = run_from-made frame es xs l h
 pub returns-clause-run : goal.returns-clause-run
 returns-clause-run c s chunks lists es input h =
     let l = start s chunks lists in
-    subst (λ ran. AllByRecursion IsMade ran.saves) (sym (run-run_from es input l)) (run_from-made 0 es input l (begins s chunks lists h))
+    subst (λ ran. AllByRecursion IsMade ran.saves) (sym (run-run_from es input l))
+    (run_from-made 0 es input l (begins s chunks lists h))
 
 pub returns-clause-sent : goal.returns-clause-sent
 returns-clause-sent c s chunks lists es input h =
     let l = start s chunks lists in
-    sent_in_order 0 (run es input l).saves (returns-clause-run c s chunks lists es input h) (run-numbers es input l (start-selects s chunks lists h.in_range))
+    sent_in_order 0 (run es input l).saves (returns-clause-run c s chunks lists es input h)
+    (run-numbers es input l (start-selects s chunks lists h.in_range))

@@ -19,20 +19,26 @@ returns-clause-commands c target act l stays shares = on_target_in_turn target a
 pub returns-clause-boundaries : goal.returns-clause-boundaries
 returns-clause-boundaries c frame l shares =
     swept_in_turn itself (on_loop (at_boundary l.globals frame (faces_of l))) l
-    (λ reach t fits. (let done : IsDone reach t.loop.stack (at_boundary l.globals frame (faces_of l) reach t.loop).stack = at_boundary_done l.globals frame (faces_of l) t.loop in done.chunks fits))
+    (λ reach t fits. (let done : IsDone reach t.loop.stack
+    (at_boundary l.globals frame (faces_of l) reach t.loop).stack =
+    at_boundary_done l.globals frame (faces_of l) t.loop in done.chunks fits))
     shares
 
 pub returns-clause-frames : goal.returns-clause-frames
 returns-clause-frames c x l shares =
     swept_in_turn played_on (played l.globals.fade_step x) l
-    (λ reach t fits. (let done : IsDone reach t.loop.stack (frame_later x reach t.loop).stack = frame_done x t.loop in done.chunks fits))
+    (λ reach t fits. (let done : IsDone reach t.loop.stack (frame_later x reach t.loop).stack =
+    frame_done x t.loop in done.chunks fits))
     shares
 
 pub returns-clause-kept_commands : goal.returns-clause-kept_commands
-returns-clause-kept_commands c done target act l stays h = returns-clause-commands c target act l stays (looper_shares done l h.looper)
+returns-clause-kept_commands c done target act l stays h =
+    returns-clause-commands c target act l stays (looper_shares done l h.looper)
 
 pub returns-clause-kept_boundaries : goal.returns-clause-kept_boundaries
-returns-clause-kept_boundaries c done frame l h = returns-clause-boundaries c frame l (looper_shares done l h.looper)
+returns-clause-kept_boundaries c done frame l h =
+    returns-clause-boundaries c frame l (looper_shares done l h.looper)
 
 pub returns-clause-kept_frames : goal.returns-clause-kept_frames
-returns-clause-kept_frames c done x l h = returns-clause-frames c x l (looper_shares done l h.looper)
+returns-clause-kept_frames c done x l h =
+    returns-clause-frames c x l (looper_shares done l h.looper)

@@ -10,7 +10,8 @@ pub returns-clause-entry : goal.returns-clause-entry
 returns-clause-entry c frame e l saves kept h apart = after_apart frame e l saves kept h apart
 
 pub returns-clause-begun : goal.returns-clause-begun
-returns-clause-begun c frame es xs l saves kept h apart = begun_apart frame es xs l saves kept h apart
+returns-clause-begun c frame es xs l saves kept h apart =
+    begun_apart frame es xs l saves kept h apart
 
 pub returns-clause-run : goal.returns-clause-run
 returns-clause-run c s chunks lists es input h =

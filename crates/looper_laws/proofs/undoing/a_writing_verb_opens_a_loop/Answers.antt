@@ -14,4 +14,5 @@ pub returns-clause-goes_on : goal.returns-clause-goes_on
 returns-clause-goes_on c = loud_frame_goes_on
 
 pub returns-clause-waiting : goal.returns-clause-waiting
-returns-clause-waiting c verb mode reach l opens waits some granted = wait_opens verb mode reach l opens waits some granted
+returns-clause-waiting c verb mode reach l opens waits some granted =
+    wait_opens verb mode reach l opens waits some granted
