@@ -23,7 +23,7 @@ try() {
 }
 
 try 0 'looper 0.1.0' --version
-try 0 'looper: records a phrase into a loop and lets it repeat' --help
+try 0 'looper: records phrases into loops and lets them repeat' --help
 try 2 'status 2' --version --help
 try 2 'status 2'
 try 2 'status 2' "$(printf '\377')"

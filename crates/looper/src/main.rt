@@ -1,4 +1,5 @@
-//! `looper`: the program. It hands its words to `looper_cli` over the working directory and standard output.
+//! `looper`: the program. It hands its words to `looper_cli` over the working directory and
+//! standard output.
 #![tactic(auto)]
 
 use looper_cli::{Status, plain_run};
@@ -8,23 +9,29 @@ use std::process::ExitCode;
 use std::rt::Env;
 use std::{env, io};
 
-const USAGE: &str = "looper: records a phrase into a loop and lets it repeat
+const USAGE: &str = "looper: records phrases into loops and lets them repeat
 
-usage: looper render IN JOURNAL OUT
+usage: looper render IN JOURNAL OUT [--period N] [--chunks N]
+                     [--loops N | --session NAME]
        looper show NAME
        looper --help
        looper --version
 
-render plays the WAV file IN into the loop with the commands of JOURNAL, and
-writes what is heard to the WAV file OUT. show tells the loops of a session: of
-the text NAME and the WAV files NAME-0.wav, NAME-1.wav and so on. Files stand in
-the working directory.
+render plays the WAV file IN into the loops by the commands of JOURNAL, writes
+the files that the commands save, and then what is heard to the WAV file OUT.
+The loops are --loops empty ones (1 to 16, else 1), or those of the session
+NAME. They share --chunks times 4096 frames (1 to 32768, else 4096). At most
+--period frames are processed at once (1 to 8192, else 1024), which changes
+nothing of what is written. show tells the loops of a session: of the text NAME
+and the WAV files NAME-0.wav, NAME-1.wav and so on. Files stand in the working
+directory.
 
 status: 0 done, 2 other words, 3 a bad file, 4 a reading failed,
-        5 a write failed, 8 out of memory
+        5 a write failed, 8 out of memory, 9 a limit is exceeded
 ";
 
-/// The arguments behind the program's path. The path isn't read: it is no word, and may be any bytes.
+/// The arguments behind the program's path. The path isn't read: it is no word, and may be any
+/// bytes.
 #[derive(Drop)]
 struct BehindPath<'a> {
     rt: &'a HostRuntime,

@@ -10,25 +10,31 @@ use Rattle.std.proofs.lemmas.Fmt.{decimal_digit, decimal_step, length-decimal-le
 use Rattle.std.proofs.lemmas.List.{append_assoc}
 
 -- a number of one digit, behind a text
-pub one_digit : (text new : List ℕ) (n : ℕ) → n < 10 → new ≡ text ++ (48 + n) ∷ [] → new ≡ text ++ decimal n
+pub one_digit : (text new : List ℕ) (n : ℕ) → n < 10 → new ≡ text ++ (48 + n) ∷ [] →
+    new ≡ text ++ decimal n
 one_digit text new n small is = is ∙ ap (λ (d : List ℕ). text ++ d) (sym (decimal_digit n small))
 
 -- how much room digits take
 pub one_has_room : (n : ℕ) → n < 10 → length (decimal n) ≡ 1
 one_has_room n small = ap length (decimal_digit n small)
 
-pub more_has_room : (n : ℕ) → 10 ≤ n → n < 2 ^ 64 → length (decimal n) ≡ length (decimal (n / 10)) + 1
-more_has_room n least within = ap length (decimal_step n least within) ∙ length-append (decimal (n / 10)) ((48 + n % 10) ∷ [])
+pub more_has_room : (n : ℕ) → 10 ≤ n → n < 2 ^ 64 →
+    length (decimal n) ≡ length (decimal (n / 10)) + 1
+more_has_room n least within = ap length (decimal_step n least within)
+    ∙ length-append (decimal (n / 10)) ((48 + n % 10) ∷ [])
 
 -- a last digit behind the digits before it
 pub more_digits :
-    (text first new : List ℕ) (n : ℕ) → 10 ≤ n → n < 2 ^ 64 → first ≡ text ++ decimal (n / 10) → new ≡ first ++ (48 + n % 10) ∷ [] → new ≡ text ++ decimal n
+    (text first new : List ℕ) (n : ℕ) → 10 ≤ n → n < 2 ^ 64 → first ≡ text ++ decimal (n / 10) →
+    new ≡ first ++ (48 + n % 10) ∷ [] → new ≡ text ++ decimal n
 more_digits text first new n least within first_is new_is =
-    new_is ∙ ap (λ (l : List ℕ). l ++ (48 + n % 10) ∷ []) first_is ∙ append_assoc text (decimal (n / 10)) ((48 + n % 10) ∷ [])
+    new_is ∙ ap (λ (l : List ℕ). l ++ (48 + n % 10) ∷ []) first_is
+    ∙ append_assoc text (decimal (n / 10)) ((48 + n % 10) ∷ [])
     ∙ ap (λ (d : List ℕ). text ++ d) (sym (decimal_step n least within))
 
 -- the lines of a session's loops, and what follows them
-lines_then_rest : (index : ℕ) (ss : List StripSettings) (rest : List ℕ) → loop_lines_then index ss [] ++ rest ≡ loop_lines_then index ss rest
+lines_then_rest : (index : ℕ) (ss : List StripSettings) (rest : List ℕ) →
+    loop_lines_then index ss [] ++ rest ≡ loop_lines_then index ss rest
 lines_then_rest index [] rest = refl
 lines_then_rest index (s ∷ ss) rest =
     append_assoc (loop_line index s) (loop_lines_then (index + 1) ss []) rest
@@ -36,28 +42,40 @@ lines_then_rest index (s ∷ ss) rest =
 
 -- the first line, the lines of loops and the status are the text of a session
 pub session_told :
-    (ss : List StripSettings) (loops frames : ℕ) (first second whole status : List ℕ) → loops ≡ length ss → frames ≡ sum_by length_in ss →
-    first ≡ codes "session loops " ++ (decimal loops ++ (codes " frames " ++ (decimal frames ++ (10 ∷ [])))) → second ≡ first ++ loop_lines_then 0 ss [] →
+    (ss : List StripSettings) (loops frames : ℕ) (first second whole status : List ℕ) →
+    loops ≡ length ss → frames ≡ sum_by length_in ss →
+    first ≡ codes "session loops "
+    ++ (decimal loops ++ (codes " frames " ++ (decimal frames ++ (10 ∷ [])))) →
+    second ≡ first ++ loop_lines_then 0 ss [] →
     whole ≡ second ++ status → status ≡ status_line Done → whole ≡ strips_text ss
-session_told ss loops frames first second whole status loops_are frames_are first_is second_is whole_is status_is =
-    let head : List ℕ = codes "session loops " ++ (decimal loops ++ (codes " frames " ++ (decimal frames ++ (10 ∷ [])))) in
+session_told ss loops frames first second whole status loops_are frames_are first_is second_is
+    whole_is status_is =
+    let head : List ℕ = codes "session loops "
+    ++ (decimal loops ++ (codes " frames " ++ (decimal frames ++ (10 ∷ [])))) in
     let lines = loop_lines_then 0 ss [] in
     whole_is
-    ∙ ap₂ (λ (a b : List ℕ). a ++ b) (second_is ∙ ap (λ (l : List ℕ). l ++ lines) first_is) status_is
+    ∙ ap₂ (λ (a b : List ℕ). a ++ b)
+    (second_is ∙ ap (λ (l : List ℕ). l ++ lines) first_is) status_is
     ∙ append_assoc head lines (status_line Done)
     ∙ ap (λ (l : List ℕ). head ++ l) (lines_then_rest 0 ss (status_line Done))
     ∙ told (loop_lines_then 0 ss (status_line Done))
   where
-    told : (rest : List ℕ) → (codes "session loops " ++ (decimal loops ++ (codes " frames " ++ (decimal frames ++ (10 ∷ []))))) ++ rest
-        ≡ codes "session loops " ++ (decimal (length ss) ++ (codes " frames " ++ (decimal (sum_by length_in ss) ++ (10 ∷ rest))))
+    told : (rest : List ℕ) →
+        (codes "session loops "
+        ++ (decimal loops ++ (codes " frames " ++ (decimal frames ++ (10 ∷ []))))) ++ rest
+        ≡ codes "session loops "
+        ++ (decimal (length ss)
+        ++ (codes " frames " ++ (decimal (sum_by length_in ss) ++ (10 ∷ rest))))
     told rest =
-        append_assoc (codes "session loops ") (decimal loops ++ (codes " frames " ++ (decimal frames ++ (10 ∷ [])))) rest
+        append_assoc (codes "session loops ")
+        (decimal loops ++ (codes " frames " ++ (decimal frames ++ (10 ∷ [])))) rest
         ∙ ap (λ (l : List ℕ). codes "session loops " ++ l)
         (append_assoc (decimal loops) (codes " frames " ++ (decimal frames ++ (10 ∷ []))) rest
         ∙ ap (λ (l : List ℕ). decimal loops ++ l)
         (append_assoc (codes " frames ") (decimal frames ++ (10 ∷ [])) rest
         ∙ ap (λ (l : List ℕ). codes " frames " ++ l) (append_assoc (decimal frames) (10 ∷ []) rest))
-        ∙ ap₂ (λ (m n : ℕ). decimal m ++ (codes " frames " ++ (decimal n ++ (10 ∷ rest)))) loops_are frames_are)
+        ∙ ap₂ (λ (m n : ℕ). decimal m ++ (codes " frames " ++ (decimal n ++ (10 ∷ rest)))) loops_are
+        frames_are)
 
 -- a fault's number and line are short
 pub short_kind : (n : ℕ) → n < 256 → length (decimal n) ≤ 3

@@ -1,8 +1,5 @@
-pub mod FirstJournalLemmas
-pub mod SingleLoopLemmas
-pub mod OneRunLemmas
 pub mod WordsLemmas
-pub mod InputLemmas
-pub mod EndingLemmas
+pub mod WordListLemmas
 pub mod ConsoleLemmas
-pub mod ShowLemmas
+pub mod RenderLemmas
+pub mod EndingLemmas

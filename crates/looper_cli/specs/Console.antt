@@ -1,6 +1,7 @@
 -- What a run tells the console, a text of lines. The last one is that of the status.
--- A run that is done tells before it how many frames and entries there were, and a bad file is named before it with its
--- fault and its line. A session that was looked at has a line for each loop. Want of memory tells nothing. "The console" in docs/formats.md.
+-- A run that is done tells before it its replies and numbers, and a bad file is named before it
+-- with its fault and its line. A session that was looked at has a line for each loop. Want of
+-- memory tells nothing. "The console" in docs/formats.md.
 use Rattle.std.specs.Prelude.{◌≡◌, ℕ, ◌+◌, List, ◌∷◌, [], ◌++◌, length, sum_by, codes}
 use Rattle.std.specs.Fmt.{decimal}
 use Rattle.std.specs.Io.KnownBytes.{Appends}
@@ -10,32 +11,31 @@ use Rattle.sl_commands.specs.Settings.{LooperSettings}
 use Rattle.sl_ports.specs.Effects.{TellsTo}
 use Rattle.sl_ports.specs.Texts.{AppendsPrefix}
 use Rattle.sl_ports.specs.declared.sinks.Sink.{Ghosts as Sink}
-use Rattle.looper_cli.specs.Statuses.{status_line, fault_kind, fault_line}
-use Rattle.looper_cli.specs.declared.status.FileFault.{FileFault}
+use Rattle.looper_cli.specs.Statuses.{status_line}
 use Rattle.looper_cli.specs.declared.status.RunFault.{RunFault}
-use Rattle.looper_cli.specs.declared.status.RunFault.TheVariants.{BadFile as IsBad, Reading, Writing, Memory as Lacking}
+use Rattle.looper_cli.specs.declared.status.RunFault.TheVariants.{BadFile as IsBad, Limit as Beyond, Reading, Writing, Memory as Lacking}
 use Rattle.looper_cli.specs.declared.status.Status.{Status}
-use Rattle.looper_cli.specs.declared.status.Status.TheVariants.{Done, Words, BadFile, ReadFault, WriteFault, Memory}
+use Rattle.looper_cli.specs.declared.status.Status.TheVariants.{Done, Words, BadFile, ReadFault, WriteFault, Memory, Limit}
 
 -- a fault and its line
-abbrev pub fault_text : FileFault → List ℕ
-fault_text fault =
-    codes " fault " ++ (decimal (fault_kind fault) ++ (codes " line " ++ (decimal (fault_line fault) ++ (10 ∷ []))))
+abbrev pub fault_text : ℕ → ℕ → List ℕ
+fault_text kind line =
+    codes " fault " ++ (decimal kind ++ (codes " line " ++ (decimal line ++ (10 ∷ []))))
 
 -- of a bad file
-abbrev pub bad_file_text : List ℕ → FileFault → List ℕ
-bad_file_text name fault = codes "file " ++ (name ++ (fault_text fault ++ status_line BadFile))
+abbrev pub bad_file_text : List ℕ → ℕ → ℕ → List ℕ
+bad_file_text name kind line =
+    codes "file " ++ (name ++ (fault_text kind line ++ status_line BadFile))
 
--- of a run that is done, with so many frames and entries
-abbrev pub done_text : ℕ → ℕ → List ℕ
-done_text frames entries =
-    codes "frames " ++ (decimal frames ++ (codes " entries " ++ (decimal entries
-    ++ (codes " replies 0 saves 0 refused 0" ++ (10 ∷ status_line Done)))))
+-- of a run that is done, behind its replies and numbers
+abbrev pub done_text : List ℕ → List ℕ
+done_text text = text ++ status_line Done
 
 -- the line of a session's loop of this index
 abbrev pub loop_line : ℕ → StripSettings → List ℕ
 loop_line index s =
-    codes "loop " ++ (decimal index ++ (codes " " ++ (decimal s.length ++ (codes " " ++ (decimal s.cycle ++ (10 ∷ []))))))
+    codes "loop " ++ (decimal index
+    ++ (codes " " ++ (decimal s.length ++ (codes " " ++ (decimal s.cycle ++ (10 ∷ []))))))
 
 -- the lines of a session's loops, of which the first has this index, and then what follows
 abbrev pub loop_lines_then : ℕ → List StripSettings → List ℕ → List ℕ
@@ -46,10 +46,12 @@ loop_lines_then index (s ∷ ss) rest = loop_line index s ++ loop_lines_then (in
 abbrev pub length_in : StripSettings → ℕ
 length_in s = s.length
 
--- of a session with these loops: how many there are, the frames of all of them together, and a line for each
+-- of a session with these loops: how many there are, the frames of all of them together, and a line
+-- for each
 abbrev pub strips_text : List StripSettings → List ℕ
 strips_text strips =
-    codes "session loops " ++ (decimal (length strips) ++ (codes " frames " ++ (decimal (sum_by length_in strips)
+    codes "session loops "
+    ++ (decimal (length strips) ++ (codes " frames " ++ (decimal (sum_by length_in strips)
     ++ (10 ∷ loop_lines_then 0 strips (status_line Done)))))
 
 -- of a session that was looked at
@@ -58,16 +60,20 @@ show_text settings = strips_text settings.strips
 
 -- what is told of a run that isn't done
 abbrev pub TellsFault : {C : Type 0} → Sink C → C → C → RunFault → Type 0
-TellsFault s old new (IsBad name fault) = TellsTo s old new (bad_file_text name fault)
+TellsFault s old new (IsBad name kind line) = TellsTo s old new (bad_file_text name kind line)
+TellsFault s old new Beyond = TellsTo s old new (status_line Limit)
 TellsFault s old new Reading = TellsTo s old new (status_line ReadFault)
 TellsFault s old new Writing = TellsTo s old new (status_line WriteFault)
 TellsFault s old new Lacking = new ≡ old
 
 -- what is told of a run that is done: its text, or a prefix of it where the count of faults rose
 abbrev pub TellsDone : {C : Type 0} → Sink C → C → C → List ℕ → Status → Type 0
-TellsDone s old new text Done = Appends (s.held old) (s.held new) text × (s.faults new ≡ s.faults old)
-TellsDone s old new text WriteFault = Rose (s.faults old) (s.faults new) × AppendsPrefix (s.held old) (s.held new) text
+TellsDone s old new text Done = Appends (s.held old) (s.held new) text
+    × (s.faults new ≡ s.faults old)
+TellsDone s old new text WriteFault = Rose (s.faults old) (s.faults new)
+    × AppendsPrefix (s.held old) (s.held new) text
 TellsDone s old new text Words = ⊥
 TellsDone s old new text BadFile = ⊥
 TellsDone s old new text ReadFault = ⊥
 TellsDone s old new text Memory = ⊥
+TellsDone s old new text Limit = ⊥

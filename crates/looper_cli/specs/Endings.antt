@@ -1,15 +1,19 @@
 -- How a command ends, by its status.
--- - Done: of `render`, OUT is the WAV text of what is heard of IN with JOURNAL's hits, every other file is as before, and the
---   console has the summary. Of `show`, the console has the session's loops, and no file changed. No count rose.
--- - BadFile: of `render`, IN, or else JOURNAL, is missing or in another form; of `show`, the console names the session's first bad
---   file. No file changed.
+-- - Done: of `render`, the files of all saves of the run are written in their order, and OUT last,
+--   every other file is as before, and the console has the run's replies and numbers. Of `show`,
+--   the console has the session's loops, and no file changed. No count rose.
+-- - BadFile: the console names the first bad file. No file changed.
+-- - Limit: all files are good, and IN is too long or the lists need too many chunks. No file
+--   changed.
 -- - ReadFault: the keeper's count of readings rose. No file changed.
--- - WriteFault: of `render`, the keeper's count of writes rose and no file changed; or the console's count rose, and the files are
---   those of a command that is done.
--- - Memory: no file changed, and nothing was told.
+-- - WriteFault: of `render`, the keeper's count of writes rose, and the first of the files of a
+--   command that is done are written; or the console's count rose, and the files are those of a
+--   command that is done.
+-- - Memory: nothing was told, and no file changed, but that of `render` the first of the files of a
+--   command that is done may be written.
 -- The console has the text of the status, or a prefix of it, and then only where its count rose.
 -- "Statuses" in docs/formats.md.
-use Rattle.std.specs.Prelude.{◌≡◌, ◌⊎◌, ⊤, ℕ, Option, List, length, Result, Ok, Err}
+use Rattle.std.specs.Prelude.{◌≡◌, ◌⊎◌, ⊤, ℕ, ◌++◌, Option, List, [], ◌∷◌, length, Result, Ok, Err}
 use Rattle.std.specs.String.{string_bytes}
 use Rattle.std.specs.declared.string.String.{String}
 use Rattle.std.specs.declared.alloc.Global.{Global}
@@ -18,149 +22,204 @@ use Rattle.sl_base.specs.Sounds.{Sound}
 use Rattle.sl_base.specs.Counting.{Rose}
 use Rattle.sl_commands.specs.Settings.{LooperSettings}
 use Rattle.session_file.specs.Loading.{IsLoaded, FirstBadFile}
+use Rattle.session_file.specs.declared.loading.LoadFault.{LoadFault}
+use Rattle.session_file.specs.declared.loading.LoadFault.TheVariants.{File as BadPart, Read as Unread, Memory as NoMemory}
 use Rattle.sl_ports.specs.Effects.{TellsTo}
-use Rattle.sl_ports.specs.Files.{Files, put_told}
+use Rattle.sl_ports.specs.Files.{Files}
 use Rattle.sl_ports.specs.Texts.{AppendsPrefix}
 use Rattle.sl_ports.specs.declared.keepers.Keeper.{Ghosts as Keeper}
 use Rattle.sl_ports.specs.declared.sinks.Sink.{Ghosts as Sink}
-use Rattle.wav_pcm.specs.Mono16.{IsMono16}
 use Rattle.wav_pcm.specs.WavText.{wav_text}
-use Rattle.looper_rules.specs.OneLoop.{one_run}
-use Rattle.looper_cli.specs.Words.{FileNames, Asked, renders, shows}
-use Rattle.looper_cli.specs.FirstJournal.{IsFirstJournal}
-use Rattle.looper_cli.specs.Inputs.{Has, HasFault, IsInput, IsJournal}
+use Rattle.looper_rules.specs.Looper.{Looper}
+use Rattle.looper_rules.specs.Run.{Ran, start}
+use Rattle.loop_saver.specs.SavedFiles.{SavedFile, put_all}
+use Rattle.loop_saver.specs.Accepting.{WritesFirst}
+use Rattle.journal_run.specs.Inputs.{InputOf}
+use Rattle.journal_run.specs.RunTexts.{run_text}
+use Rattle.journal_run.specs.Performing.{ran_over, saved_by}
+use Rattle.journal_run.specs.declared.starting.PlayFault.{PlayFault}
+use Rattle.journal_run.specs.declared.starting.PlayFault.TheVariants.{Limit as TooFew, Writing as Unwritten, Memory as Wanted}
+use Rattle.run_files.specs.AllFiles.{Told, IsRunOf, ExceedsLimit, FirstBad}
+use Rattle.run_files.specs.declared.run.RunFault.{RunFault as FilesFault}
+use Rattle.run_files.specs.declared.run.RunFault.TheVariants.{File as BadOne, Read as NotRead, Memory as NoRoom, Limit as TooMuch}
+use Rattle.looper_cli.specs.Words.{RenderAsked, Asked, renders, shows}
+use Rattle.looper_cli.specs.Named.{named_of}
 use Rattle.looper_cli.specs.Console.{bad_file_text, done_text, show_text}
 use Rattle.looper_cli.specs.Statuses.{status_line}
-use Rattle.looper_cli.specs.declared.status.FileFault.{FileFault}
-use Rattle.looper_cli.specs.declared.status.FileFault.TheVariants.{Missing, NotYet, At}
 use Rattle.looper_cli.specs.declared.status.RunFault.{RunFault}
-use Rattle.looper_cli.specs.declared.status.RunFault.TheVariants.{BadFile as IsBad, Reading, Writing, Memory as Lacking}
+use Rattle.looper_cli.specs.declared.status.RunFault.TheVariants.{BadFile as IsBad, Limit as Beyond, Reading, Writing, Memory as Lacking}
 use Rattle.looper_cli.specs.declared.status.Status.{Status}
-use Rattle.looper_cli.specs.declared.status.Status.TheVariants.{Done, Words, BadFile, ReadFault, WriteFault, Memory}
+use Rattle.looper_cli.specs.declared.status.Status.TheVariants.{Done, Words, BadFile, ReadFault, WriteFault, Memory, Limit}
 
--- what IN and JOURNAL were found to hold
-pub record Inputs (names : FileNames) (files : Option Files) : Type 0 where
-  pub rate : ℕ
-  pub frames : List Sound
-  pub hits : List ℕ
-  pub input : Has (λ bytes. IsMono16 bytes frames rate) files names.input
-  pub journal : Has (λ bytes. IsFirstJournal bytes hits) files names.journal
+-- what a run goes over, and the looper that it begins with
+abbrev pub input_of : Told → InputOf
+input_of t = record {
+  rate = t.spelling.rate;
+  channels = t.spelling.channels;
+  bits =
+      t.spelling.bits;
+  frames = t.frames;
+}
 
--- the WAV text of what is heard
-abbrev pub out_text : List Sound → List ℕ → ℕ → List ℕ
-out_text frames hits rate = wav_text (one_run hits frames) 1 16 rate
+abbrev pub looper_of : RenderAsked → Told → Looper
+looper_of r t = start t.settings r.chunks t.lists
 
--- the bytes are the WAV text of what is heard of whatever frames IN's bytes spell, with these hits
-abbrev pub IsOutOf : List ℕ → List ℕ → List ℕ → Type 0
-IsOutOf input hits out = (frames : List Sound) (rate : ℕ) → IsMono16 input frames rate → out ≡ out_text frames hits rate
+-- the run of the rules
+abbrev pub ran_of : RenderAsked → Told → Ran
+ran_of r t = ran_over t.entries (input_of t) (looper_of r t)
 
--- the bytes and the text of the console are made of IN's bytes and these hits
-pub record IsMadeOf (input hits out text : List ℕ) : Type 0 where
-  pub out_made : IsOutOf input hits out
-  pub text_made : (frames : List Sound) (rate : ℕ) → IsMono16 input frames rate → text ≡ done_text (length frames) (length hits)
+-- what is written: the files of all saves, and OUT behind them
+abbrev pub out_file : RenderAsked → Told → SavedFile
+out_file r t = record {
+  name = r.out;
+  bytes =
+      wav_text (ran_of r t).output t.spelling.channels t.spelling.bits t.spelling.rate;
+}
 
--- what is written was made from what the files were found to hold
-pub record MadeFrom (names : FileNames) (files : Option Files) (out text : List ℕ) : Type 0 where
-  pub inputs : Inputs names files
-  pub out_made : out ≡ out_text inputs.frames inputs.hits inputs.rate
-  pub text_made : text ≡ done_text (length inputs.frames) (length inputs.hits)
+abbrev pub files_of_run : RenderAsked → Told → List SavedFile
+files_of_run r t = saved_by t.entries (input_of t) (looper_of r t) ++ out_file r t ∷ []
 
--- OUT is written and no other file, and the summary is told so
-pub record Renders (names : FileNames) (before after : Option Files) (Told : List ℕ → Type 0) : Type 0 where
-  pub inputs : Inputs names before
-  pub out : after ≡ put_told before names.out (out_text inputs.frames inputs.hits inputs.rate)
-  pub summary : Told (done_text (length inputs.frames) (length inputs.hits))
+-- what is told
+abbrev pub text_of_run : RenderAsked → Told → List ℕ
+text_of_run r t = done_text (run_text (length t.frames) (length t.entries) (ran_of r t))
 
--- the first bad file and its fault: IN, or else JOURNAL
-abbrev pub IsFirstBad : FileNames → Option Files → List ℕ → FileFault → Type 0
-IsFirstBad names files name fault =
-    ((name ≡ names.input) × HasFault fault IsInput files names.input)
-    ⊎ ((name ≡ names.journal) × Has IsInput files names.input × HasFault fault IsJournal files names.journal)
+-- all files of a run are written and no other, and its text is told so
+pub record Renders (r : RenderAsked) (before after : Option Files)
+    (Says : List ℕ → Type 0) : Type 0 where
+  pub told : Told
+  pub run : IsRunOf before (named_of r) told
+  pub files : after ≡ put_all (files_of_run r told) before
+  pub text : Says (text_of_run r told)
+
+-- the first of the files of a run are written and no other
+pub record RendersFirst (r : RenderAsked) (before after : Option Files) : Type 0 where
+  pub told : Told
+  pub run : IsRunOf before (named_of r) told
+  pub files : WritesFirst (files_of_run r told) before after
 
 -- no count of the keeper rose
 pub record StaysWhole {P : Type 0} (k : Keeper P) (old new : P) : Type 0 where
   pub reads : k.read_faults new ≡ k.read_faults old
   pub writes : k.write_faults new ≡ k.write_faults old
 
--- OUT couldn't be written
-pub record FailsToWrite {P : Type 0} (k : Keeper P) (names : FileNames) (old new : P) : Type 0 where
-  pub inputs : Inputs names (k.files old)
+-- a file of a run couldn't be written
+pub record FailsToWrite {P : Type 0} (k : Keeper P) (r : RenderAsked) (old new : P) : Type 0 where
+  pub first : RendersFirst r (k.files old) (k.files new)
   pub rose : Rose (k.write_faults old) (k.write_faults new)
-  pub unchanged : k.files new ≡ k.files old
 
 -- what a run that isn't done leaves, by its fault
-abbrev pub FailsBy : {P : Type 0} → Keeper P → FileNames → P → P → RunFault → Type 0
-FailsBy k names old new (IsBad name fault) = IsFirstBad names (k.files old) name fault × (k.files new ≡ k.files old)
-FailsBy k names old new Reading = Rose (k.read_faults old) (k.read_faults new) × (k.files new ≡ k.files old)
-FailsBy k names old new Writing = FailsToWrite k names old new
-FailsBy k names old new Lacking = k.files new ≡ k.files old
+abbrev pub FailsBy : {P : Type 0} → Keeper P → RenderAsked → P → P → RunFault → Type 0
+FailsBy k r old new (IsBad name kind line) = FirstBad (k.files old) (named_of r) name kind line
+    × (k.files new ≡ k.files old)
+FailsBy k r old new Beyond = ExceedsLimit (k.files old) (named_of r) × (k.files new ≡ k.files old)
+FailsBy k r old new Reading = Rose (k.read_faults old) (k.read_faults new)
+    × (k.files new ≡ k.files old)
+FailsBy k r old new Writing = FailsToWrite k r old new
+FailsBy k r old new Lacking = (k.files new ≡ k.files old)
+    ⊎ RendersFirst r (k.files old) (k.files new)
 
--- what a run of `render` does to the keeper's files, by its answer: the summary, or a fault
-abbrev pub Leaves : {P : Type 0} → Keeper P → FileNames → P → P → Result (String Global) RunFault → Type 0
-Leaves k names old new (Ok text) = Renders names (k.files old) (k.files new) (λ done. string_bytes text ≡ done) × StaysWhole k old new
-Leaves k names old new (Err fault) = FailsBy k names old new fault
+-- what a run of `render` does to the keeper's files, by its answer: its text, or a fault
+abbrev pub Leaves : {P : Type 0} → Keeper P → RenderAsked → P → P →
+    Result (String Global) RunFault → Type 0
+Leaves k r old new (Ok text) =
+    Renders r (k.files old) (k.files new) (λ said. string_bytes text ≡ said) × StaysWhole k old new
+Leaves k r old new (Err fault) = FailsBy k r old new fault
+
+-- why files aren't a run, or a session isn't loaded, or a run gives nothing, is handed on
+abbrev pub PassesFiles : FilesFault → RunFault → Type 0
+PassesFiles (BadOne name kind line) result = result ≡ IsBad name kind line
+PassesFiles NotRead result = result ≡ Reading
+PassesFiles NoRoom result = result ≡ Lacking
+PassesFiles TooMuch result = result ≡ Beyond
+
+abbrev pub PassesLoad : LoadFault → RunFault → Type 0
+PassesLoad (BadPart name kind line) result = result ≡ IsBad name kind line
+PassesLoad Unread result = result ≡ Reading
+PassesLoad NoMemory result = result ≡ Lacking
+
+abbrev pub PassesPlay : PlayFault → RunFault → Type 0
+PassesPlay TooFew result = result ≡ Beyond
+PassesPlay Unwritten result = result ≡ Writing
+PassesPlay Wanted result = result ≡ Lacking
 
 -- the session of this name is told
-pub record Shows (session : List ℕ) (files : Option Files) (Told : List ℕ → Type 0) : Type 0 where
+pub record Shows (session : List ℕ) (files : Option Files) (Says : List ℕ → Type 0) : Type 0 where
   pub settings : LooperSettings
   pub lists : List (List Sound)
   pub loaded : IsLoaded files session settings lists
-  pub text : Told (show_text settings)
-
--- the first bad file of a session and its fault
-abbrev pub IsFirstBadOf : List ℕ → Option Files → List ℕ → FileFault → Type 0
-IsFirstBadOf session files name (At kind line) = FirstBadFile files session name kind line
-IsFirstBadOf session files name Missing = ⊥
-IsFirstBadOf session files name NotYet = ⊥
+  pub text : Says (show_text settings)
 
 -- what a look at a session that isn't done says of the files, by its fault; it never writes
 abbrev pub FailsToShow : {P : Type 0} → Keeper P → List ℕ → P → P → RunFault → Type 0
-FailsToShow k session old new (IsBad name fault) = IsFirstBadOf session (k.files old) name fault
+FailsToShow k session old new (IsBad name kind line) =
+    FirstBadFile (k.files old) session name kind line
+FailsToShow k session old new Beyond = ⊥
 FailsToShow k session old new Reading = Rose (k.read_faults old) (k.read_faults new)
 FailsToShow k session old new Writing = ⊥
 FailsToShow k session old new Lacking = ⊤
 
 -- what a look at a session tells, by its answer: the session's text, or a fault
-abbrev pub LooksAt : {P : Type 0} → Keeper P → List ℕ → P → P → Result (String Global) RunFault → Type 0
-LooksAt k session old new (Ok text) = Shows session (k.files old) (λ done. string_bytes text ≡ done) × StaysWhole k old new
+abbrev pub LooksAt : {P : Type 0} → Keeper P → List ℕ → P → P → Result (String Global) RunFault →
+    Type 0
+LooksAt k session old new (Ok text) = Shows session (k.files old) (λ said. string_bytes text ≡ said)
+    × StaysWhole k old new
 LooksAt k session old new (Err fault) = FailsToShow k session old new fault
 
 -- what a command does to the keeper's files, by its answer
 abbrev pub Does : {P : Type 0} → Keeper P → Asked → P → P → Result (String Global) RunFault → Type 0
-Does k (renders names) old new result = Leaves k names old new result
-Does k (shows session) old new result = LooksAt k session old new result × (k.files new ≡ k.files old)
+Does k (renders r) old new result = Leaves k r old new result
+Does k (shows session) old new result = LooksAt k session old new result
+    × (k.files new ≡ k.files old)
 
 -- a command that is done: the files that it leaves, and what it tells
 abbrev pub IsDone : Asked → Option Files → Option Files → (List ℕ → Type 0) → Type 0
-IsDone (renders names) before after Told = Renders names before after Told
-IsDone (shows session) before after Told = Shows session before Told × (after ≡ before)
+IsDone (renders r) before after Says = Renders r before after Says
+IsDone (shows session) before after Says = Shows session before Says × (after ≡ before)
 
--- a command's first bad file and its fault
-abbrev pub IsBadFor : Asked → Option Files → List ℕ → FileFault → Type 0
-IsBadFor (renders names) files name fault = IsFirstBad names files name fault
-IsBadFor (shows session) files name fault = IsFirstBadOf session files name fault
+-- a command's first bad file, with the number of what is wrong and its line
+abbrev pub IsBadFor : Asked → Option Files → List ℕ → ℕ → ℕ → Type 0
+IsBadFor (renders r) files name kind line = FirstBad files (named_of r) name kind line
+IsBadFor (shows session) files name kind line = FirstBadFile files session name kind line
+
+-- a command's files are good, and a limit is exceeded
+abbrev pub IsBeyondFor : Asked → Option Files → Type 0
+IsBeyondFor (renders r) files = ExceedsLimit files (named_of r)
+IsBeyondFor (shows session) files = ⊥
 
 -- the first bad file is told so
-pub record NamesBad (asked : Asked) (files : Option Files) (Told : List ℕ → Type 0) : Type 0 where
+pub record NamesBad (asked : Asked) (files : Option Files) (Says : List ℕ → Type 0) : Type 0 where
   pub name : List ℕ
-  pub fault : FileFault
-  pub first : IsBadFor asked files name fault
-  pub text : Told (bad_file_text name fault)
+  pub kind : ℕ
+  pub line : ℕ
+  pub first : IsBadFor asked files name kind line
+  pub text : Says (bad_file_text name kind line)
 
--- a command couldn't write its file
+-- a command couldn't write a file
 abbrev pub CannotWrite : {P : Type 0} → Keeper P → Asked → P → P → Type 0
-CannotWrite k (renders names) old new = FailsToWrite k names old new
+CannotWrite k (renders r) old new = FailsToWrite k r old new
 CannotWrite k (shows session) old new = ⊥
+
+-- no file changed, or the first files of a run are written
+abbrev pub WritesAtMost : Asked → Option Files → Option Files → Type 0
+WritesAtMost (renders r) before after = (after ≡ before) ⊎ RendersFirst r before after
+WritesAtMost (shows session) before after = after ≡ before
 
 -- what holds where a command ends with a status
 abbrev pub Ends : {P C : Type 0} → Keeper P → Sink C → Asked → P → P → C → C → Status → Type 0
 Ends k s asked old new before after Done =
-    IsDone asked (k.files old) (k.files new) (Appends (s.held before) (s.held after)) × StaysWhole k old new × (s.faults after ≡ s.faults before)
+    IsDone asked (k.files old) (k.files new) (Appends (s.held before) (s.held after))
+    × StaysWhole k old new × (s.faults after ≡ s.faults before)
 Ends k s asked old new before after Words = ⊥
-Ends k s asked old new before after BadFile = NamesBad asked (k.files old) (TellsTo s before after) × (k.files new ≡ k.files old)
+Ends k s asked old new before after BadFile = NamesBad asked (k.files old) (TellsTo s before after)
+    × (k.files new ≡ k.files old)
+Ends k s asked old new before after Limit = IsBeyondFor asked (k.files old)
+    × TellsTo s before after (status_line Limit) × (k.files new ≡ k.files old)
 Ends k s asked old new before after ReadFault =
-    Rose (k.read_faults old) (k.read_faults new) × TellsTo s before after (status_line ReadFault) × (k.files new ≡ k.files old)
+    Rose (k.read_faults old) (k.read_faults new) × TellsTo s before after (status_line ReadFault)
+    × (k.files new ≡ k.files old)
 Ends k s asked old new before after WriteFault =
     (CannotWrite k asked old new × TellsTo s before after (status_line WriteFault))
-    ⊎ (Rose (s.faults before) (s.faults after) × IsDone asked (k.files old) (k.files new) (AppendsPrefix (s.held before) (s.held after)))
-Ends k s asked old new before after Memory = (k.files new ≡ k.files old) × (after ≡ before)
+    ⊎ (Rose (s.faults before) (s.faults after)
+    × IsDone asked (k.files old) (k.files new) (AppendsPrefix (s.held before) (s.held after)))
+Ends k s asked old new before after Memory = WritesAtMost asked (k.files old) (k.files new)
+    × (after ≡ before)

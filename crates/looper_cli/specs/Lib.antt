@@ -1,10 +1,6 @@
 pub mod Words
+pub mod Asking
 pub mod Named
-pub mod FirstJournal
-pub mod FirstReading
-pub mod SingleLoops
-pub mod OneRun
 pub mod Statuses
 pub mod Console
-pub mod Inputs
 pub mod Endings

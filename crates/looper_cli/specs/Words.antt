@@ -1,40 +1,119 @@
--- The words of the command line are `render IN JOURNAL OUT` or `show NAME`, byte for byte. IN, JOURNAL and OUT are names, and
--- NAME is one of at most 48 bytes.
+-- The words of the command line are `render IN JOURNAL OUT` with options behind them, or `show
+-- NAME`, byte for byte. The options of `render` are `--period N` (1 to 8192), `--chunks N` (1 to
+-- 32768), `--loops N` (1 to 16) and `--session NAME`, each two words, in any order and each at most
+-- once; `--loops` and `--session` exclude each other. Where one isn't given, the period is 1024,
+-- there are 4096 chunks and one loop, and no session. A number is decimal, without a sign or a
+-- leading zero. IN, JOURNAL and OUT are names, and the name of a session has at most 48 bytes.
 -- "The words of the command line" in docs/formats.md.
-use Rattle.std.specs.Prelude.{ℕ, Bool, ◌&&◌, List, [], ◌∷◌, length, nat_le, Option, Some, None, if◌then◌else◌, codes}
+use Rattle.std.specs.Prelude.{ℕ, Bool, ◌&&◌, List, [], ◌∷◌, length, nat_le, Option, Some, None, is_some, if◌then◌else◌, codes}
+use Rattle.std.specs.Option.{option_map, option_and_then}
 use Rattle.std.specs.Str.{bytes_eq}
-use Rattle.sl_base.specs.Limits.{max_session_name}
+use Rattle.std.specs.Str.Parse.{digits_value}
+use Rattle.sl_base.specs.Limits.{max_session_name, max_period, max_chunks, max_loops}
 use Rattle.sl_base.specs.Names.{is_name}
+use Rattle.text_lines.specs.Numerals.{is_numeral}
 
--- the names of the three files of a run
-pub record FileNames : Type 0 where
+-- what a run of `render` is asked for
+pub record RenderAsked : Type 0 where
   pub input : List ℕ
   pub journal : List ℕ
   pub out : List ℕ
+  pub period : ℕ
+  pub chunks : ℕ
+  pub loops : ℕ
+  pub session : Option (List ℕ)
 
--- what words ask for: a run over these files, or a look at a session of this name
+-- what words ask for: a run, or a look at a session of this name
 pub data Asked : Type 0 where
-  renders : FileNames → Asked
+  renders : RenderAsked → Asked
   shows : List ℕ → Asked
 
--- `render` and three names
-abbrev pub are_render_words : List ℕ → FileNames → Bool
-are_render_words first names = bytes_eq first (codes "render") && is_name names.input && is_name names.journal && is_name names.out
+-- the options that were given
+pub record Given : Type 0 where
+  pub period : Option ℕ
+  pub chunks : Option ℕ
+  pub loops : Option ℕ
+  pub session : Option (List ℕ)
 
--- what four words ask for
-abbrev pub render_of : List ℕ → FileNames → Option Asked
-render_of first names = if are_render_words first names then Some (renders names) else None
+abbrev pub none_given : Given
+none_given = record { period = None; chunks = None; loops = None; session = None }
 
--- `show` and the name of a session
-abbrev pub are_show_words : List ℕ → List ℕ → Bool
-are_show_words first name = bytes_eq first (codes "show") && is_name name && nat_le (length name) max_session_name
+-- the number from 1 to the most that a word spells
+abbrev pub number_in : ℕ → List ℕ → Option ℕ
+number_in most word =
+    if is_numeral word && nat_le 1 (digits_value 10 word) && nat_le (digits_value 10 word) most then
+    Some (digits_value 10 word) else None
 
--- what two words ask for
-abbrev pub show_of : List ℕ → List ℕ → Option Asked
-show_of first name = if are_show_words first name then Some (shows name) else None
+-- the word is the name of a session
+abbrev pub is_session_word : List ℕ → Bool
+is_session_word word = is_name word && nat_le (length word) max_session_name
+
+abbrev pub session_in : List ℕ → Option (List ℕ)
+session_in word = if is_session_word word then Some word else None
+
+-- what is given for the first time
+abbrev pub first_given : {A : Type 0} → Option A → Option A → Option A
+first_given None now = now
+first_given (Some before) now = None
+
+-- with one option more, or None where it isn't one
+abbrev pub with_option : List ℕ → List ℕ → Given → Option Given
+with_option word value g =
+    if bytes_eq word (codes "--period") then option_map (λ n. record g { period = Some n })
+    (first_given g.period (number_in max_period value))
+    else if bytes_eq word (codes "--chunks") then option_map (λ n. record g { chunks = Some n })
+    (first_given g.chunks (number_in max_chunks value))
+    else if bytes_eq word (codes "--loops") then option_map (λ n. record g { loops = Some n })
+    (first_given g.loops (number_in max_loops value))
+    else if bytes_eq word (codes "--session") then
+    option_map (λ name. record g { session = Some name })
+    (first_given g.session (session_in value))
+    else None
+
+-- the options that words give behind these
+abbrev pub options_in : List (List ℕ) → Given → Option Given
+options_in [] g = Some g
+options_in (word ∷ []) g = None
+options_in (word ∷ value ∷ words) g = option_and_then (options_in words) (with_option word value g)
+
+-- the value, or the one that stands where none is given
+abbrev pub given_or : {A : Type 0} → A → Option A → A
+given_or other None = other
+given_or other (Some a) = a
+
+-- the run with these options
+abbrev pub run_with : List ℕ → List ℕ → List ℕ → Given → Option Asked
+run_with input journal out g =
+    if is_some g.loops && is_some g.session then None
+    else Some (renders (record {
+      input = input;
+      journal = journal;
+      out = out;
+      period = given_or 1024 g.period;
+      chunks = given_or 4096 g.chunks;
+      loops = given_or 1 g.loops;
+      session = g.session;
+    }))
+
+-- the run of three names with these options, where there are such
+abbrev pub run_named : List ℕ → List ℕ → List ℕ → Option Given → Option Asked
+run_named input journal out given = if is_name input && is_name journal && is_name out then
+    option_and_then (run_with input journal out) given else None
+
+-- what words behind `render` ask for
+abbrev pub render_in : List (List ℕ) → Option Asked
+render_in (input ∷ journal ∷ out ∷ words) =
+    run_named input journal out (options_in words none_given)
+render_in _ = None
+
+-- what words behind `show` ask for
+abbrev pub show_in : List (List ℕ) → Option Asked
+show_in (name ∷ []) = option_map shows (session_in name)
+show_in _ = None
 
 -- what the words ask for, or None where they aren't in the grammar
 abbrev pub asked_in : List (List ℕ) → Option Asked
-asked_in (first ∷ name ∷ []) = show_of first name
-asked_in (first ∷ input ∷ journal ∷ out ∷ []) = render_of first (record { input = input; journal = journal; out = out })
-asked_in _ = None
+asked_in [] = None
+asked_in (first ∷ words) =
+    if bytes_eq first (codes "render") then render_in words else
+    if bytes_eq first (codes "show") then show_in words else None

@@ -6,7 +6,7 @@ ghost use Rattle.sl_ports.specs.Effects.{TellsTo};
 ghost use Rattle.looper_cli.specs.Console.{fault_text, bad_file_text, TellsFault, TellsDone};
 ghost use Rattle.looper_cli.specs.Statuses.{status_of};
 
-use crate::status::{FileFault, RunFault, Status};
+use crate::status::{RunFault, Status};
 use arrayvec::ArrayString;
 use sl_base::Name;
 use sl_ports::{Sink, SinkAnswer};
@@ -45,26 +45,26 @@ fn push_number(text: &mut ArrayString<128>, number: u32)
 
 /// Puts a fault and its line behind the text.
 #[tactic(auto, using(crate::proofs::ConsoleLemmas::short_kind, crate::proofs::ConsoleLemmas::short_line))]
-fn push_fault(text: &mut ArrayString<128>, fault: FileFault)
+fn push_fault(text: &mut ArrayString<128>, kind: u8, line: u32)
     requires { length text.old.bytes + 32 ≤ 128 }
-    ensures bytes { text.new.bytes ≡ text.old.bytes ++ fault_text fault }
+    ensures bytes { text.new.bytes ≡ text.old.bytes ++ fault_text kind line }
     ensures len { length text.new.bytes ≤ length text.old.bytes + 32 }
 {
     text.push_str(" fault ");
-    push_number(text, fault.kind() as u32);
+    push_number(text, kind as u32);
     text.push_str(" line ");
-    push_number(text, fault.line());
+    push_number(text, line);
     text.push_str("\n");
 }
 
 /// Tells of a bad file.
-fn tell_bad_file<C: Sink>(console: &mut C, name: &Name, fault: FileFault)
-    ensures { TellsTo C.Sink console.old console.new (bad_file_text name.now fault) }
+fn tell_bad_file<C: Sink>(console: &mut C, name: &Name, kind: u8, line: u32)
+    ensures { TellsTo C.Sink console.old console.new (bad_file_text name.now kind line) }
 {
     let mut text: ArrayString<128> = ArrayString::new();
     text.push_str("file ");
     text.push_str(name.as_str());
-    push_fault(&mut text, fault);
+    push_fault(&mut text, kind, line);
     text.push_str(Status::BadFile.line());
     tell(console, text.as_str());
 }
@@ -75,7 +75,8 @@ pub fn tell_fault<C: Sink>(console: &mut C, fault: &RunFault) -> Status
     ensures status { result ≡ status_of fault.now }
 {
     match fault {
-        RunFault::BadFile(name, fault) => tell_bad_file(console, name, *fault),
+        RunFault::BadFile(name, kind, line) => tell_bad_file(console, name, *kind, *line),
+        RunFault::Limit => tell(console, Status::Limit.line()),
         RunFault::Reading => tell(console, Status::ReadFault.line()),
         RunFault::Writing => tell(console, Status::WriteFault.line()),
         RunFault::Memory => {}

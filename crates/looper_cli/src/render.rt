@@ -1,104 +1,85 @@
-//! `render`: from the files to the file.
+//! `render`: from the files to the files.
 
-ghost use Rattle.std.specs.Prelude.{◌≡◌, ◌-◌, ◌/◌, length, IfOk, OnOk};
+ghost use Rattle.std.specs.Prelude.{◌≡◌, ◌++◌, OnOk, IfErr};
 ghost use Rattle.std.specs.String.{string_bytes};
-ghost use Rattle.looper_cli.specs.Console.{done_text};
-ghost use Rattle.looper_cli.specs.Inputs.{IsInput};
-ghost use Rattle.looper_cli.specs.Named.{names};
-ghost use Rattle.looper_cli.specs.Endings.{IsMadeOf, IsOutOf, MadeFrom, Leaves};
+ghost use Rattle.run_files.specs.Named.{IsNamed};
+ghost use Rattle.looper_cli.specs.Named.{named_of};
+ghost use Rattle.looper_cli.specs.Statuses.{status_line};
+ghost use Rattle.looper_cli.specs.Endings.{Leaves, PassesFiles, PassesPlay};
+ghost use Rattle.looper_cli.specs.declared.status.RunFault.TheVariants.{Memory as Lacking};
+ghost use Rattle.looper_cli.specs.declared.status.Status.TheVariants.{Done};
 
-use crate::files::{read_input, read_journal};
-use crate::first_journal::Hits;
-use crate::one_run::one_run;
 use crate::status::{RunFault, Status};
 use crate::words::Render;
-use sl_base::Memory;
+use journal_run::{Performed, PlayFault, play};
+use run_files::{RunFault as FilesFault, RunFiles, read_run};
 use sl_ports::{KeepAnswer, Keeper};
 use std::alloc::Global;
 
-/// What a run writes: the bytes of OUT and the text of the console.
-#[derive(Drop)]
-struct Made {
-    out: Vec<u8>,
-    text: String,
-}
-
-/// The text of the console for a run that is done.
-fn summary(alloc: Global, frames: usize, entries: usize) -> Result<String, Memory>
-    ensures { IfOk result (λ text. string_bytes text ≡ done_text frames entries) }
+/// Why files aren't a run, as the fault of the run.
+fn fault_of(fault: FilesFault) -> RunFault
+    ensures { PassesFiles fault result }
 {
-    let line = Status::Done.line();
-    match format!(in alloc;
-        "frames {frames} entries {entries} replies 0 saves 0 refused 0\n{line}"
-    ) {
-        Ok(text) => Ok(text),
-        Err(_) => Err(Memory),
+    match fault {
+        FilesFault::File(name, kind, line) => RunFault::BadFile(name, kind, line),
+        FilesFault::Read => RunFault::Reading,
+        FilesFault::Memory => RunFault::Memory,
+        FilesFault::Limit => RunFault::Limit,
     }
 }
 
-/// How many frames a file of one channel of 16 bits has.
-fn frames_in(bytes: &[u8]) -> usize
-    requires { IsInput bytes.now }
-    ensures { result ≡ (length bytes.now - 44) / 2 }
+/// Why a run gives nothing, as its fault.
+fn play_fault_of(fault: PlayFault) -> RunFault
+    ensures { PassesPlay fault result }
 {
-    (bytes.len() - 44) / 2
+    match fault {
+        PlayFault::Limit => RunFault::Limit,
+        PlayFault::Writing => RunFault::Writing,
+        PlayFault::Memory => RunFault::Memory,
+    }
 }
 
-/// Writes what is heard of the samples behind the first 44 bytes over them.
-fn write_over(alloc: Global, bytes: &mut [u8], hits: &Hits) -> Result<(), Memory>
-    requires { IsInput bytes.old }
-    ensures { OnOk result (IsOutOf bytes.old hits.now bytes.new) }
+/// The text that tells of a run that is done.
+fn told(performed: &mut Performed) -> Result<(), RunFault>
+    ensures text { OnOk result
+        (string_bytes performed.new.text ≡ string_bytes performed.old.text ++ status_line Done) }
+    ensures out { performed.new.out ≡ performed.old.out }
+    ensures memory { IfErr result (λ fault. fault ≡ Lacking) }
 {
-    one_run(alloc, &mut bytes[44..], hits.as_slice())
+    match performed.text.push_str(Status::Done.line()) {
+        Ok(()) => Ok(()),
+        Err(_) => Err(RunFault::Memory),
+    }
 }
 
-/// The bytes of OUT, made over those of IN.
-fn out_bytes(alloc: Global, input: Vec<u8>, hits: &Hits) -> Result<Vec<u8>, Memory>
-    requires { IsInput input.items }
-    ensures { IfOk result (λ out. IsOutOf input.items hits.now out.items) }
+/// Plays IN into the loops by JOURNAL, writes the files of all saves and at last OUT, and gives the
+/// text that tells of it.
+pub fn render<P: Keeper>(alloc: Global, keeper: &mut P, asked: &Render) -> Result<String, RunFault>
+    ensures named { IsNamed (named_of asked.now) }
+    ensures leaves { Leaves P.Keeper asked.now keeper.old keeper.new result }
 {
-    let mut out = input;
-    write_over(alloc, &mut out, hits)?;
-    Ok(out)
-}
-
-/// All that a run writes, made before anything is written.
-fn make(alloc: Global, input: Vec<u8>, hits: &Hits) -> Result<Made, Memory>
-    requires { IsInput input.items }
-    ensures { IfOk result (λ made.
-        IsMadeOf input.items hits.now made.out.items (string_bytes made.text)) }
-{
-    let text = summary(alloc, frames_in(&input), hits.len())?;
-    let out = out_bytes(alloc, input, hits)?;
-    Ok(Made { out, text })
-}
-
-/// Writes OUT, and gives the text that tells of it.
-fn write<P: Keeper>(
-    alloc: Global,
-    keeper: &mut P,
-    files: &Render,
-    made: Made,
-) -> Result<String, RunFault>
-    requires { MadeFrom (names files.now)
-        (P.files keeper.old) made.out.items (string_bytes made.text) }
-    ensures { Leaves P.Keeper (names files.now) keeper.old keeper.new result }
-{
-    match keeper.write_file(alloc, &files.out, &made.out) {
-        KeepAnswer::Done => Ok(made.text),
+    let files = match read_run(alloc, keeper, &asked.sources()) {
+        Ok(files) => files,
+        Err(fault) => return Err(fault_of(fault)),
+    };
+    let played = play(
+        alloc,
+        keeper,
+        files.settings,
+        files.initial,
+        asked.chunks,
+        &files.input,
+        files.entries.as_slice(),
+        asked.period,
+    );
+    let mut performed = match played {
+        Ok(performed) => performed,
+        Err(fault) => return Err(play_fault_of(fault)),
+    };
+    told(&mut performed)?;
+    match keeper.write_file(alloc, &asked.out, &performed.out) {
+        KeepAnswer::Done => Ok(performed.text),
         KeepAnswer::Failed => Err(RunFault::Writing),
         KeepAnswer::Memory => Err(RunFault::Memory),
     }
-}
-
-/// Plays IN into the loop with the hits of JOURNAL, writes what is heard to OUT, and gives the text that tells of it.
-pub fn render<P: Keeper>(alloc: Global, keeper: &mut P, files: &Render) -> Result<String, RunFault>
-    ensures { Leaves P.Keeper (names files.now) keeper.old keeper.new result }
-{
-    let input = read_input(alloc, keeper, &files.input)?;
-    let hits = read_journal(alloc, keeper, &files.journal)?;
-    let Ok(made) = make(alloc, input, &hits) else {
-        return Err(RunFault::Memory);
-    };
-    write(alloc, keeper, files, made)
 }

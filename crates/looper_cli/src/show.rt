@@ -3,11 +3,11 @@
 ghost use Rattle.std.specs.Prelude.{◌≡◌, ◌≤◌, ◌*◌, ◌++◌, [], length, sum_by, IfOk, OnOk};
 ghost use Rattle.std.specs.String.{string_bytes};
 ghost use Rattle.looper_cli.specs.Console.{loop_line, loop_lines_then, length_in, strips_text};
-ghost use Rattle.looper_cli.specs.Inputs.{PassesLoad};
+ghost use Rattle.looper_cli.specs.Endings.{PassesLoad};
 ghost use Rattle.looper_cli.specs.Endings.{LooksAt};
 ghost use Rattle.sl_base.specs.Limits.{max_loops};
 
-use crate::status::{FileFault, RunFault, Status};
+use crate::status::{RunFault, Status};
 use crate::words::Show;
 use session_file::{LoadFault, load};
 use sl_base::MAX_LOOPS;
@@ -20,7 +20,7 @@ fn fault_of(fault: LoadFault) -> RunFault
     ensures { PassesLoad fault result }
 {
     match fault {
-        LoadFault::File(name, kind, line) => RunFault::BadFile(name, FileFault::At(kind, line)),
+        LoadFault::File(name, kind, line) => RunFault::BadFile(name, kind, line),
         LoadFault::Read => RunFault::Reading,
         LoadFault::Memory => RunFault::Memory,
     }
@@ -40,7 +40,8 @@ fn frames_in(strips: &[StripSettings]) -> u64
 
 /// Writes the line of a loop.
 fn write_line(text: &mut String, index: usize, strip: &StripSettings) -> Result<(), AllocError>
-    ensures { OnOk result (string_bytes text.new ≡ string_bytes text.old ++ loop_line index strip.now) }
+    ensures { OnOk result
+        (string_bytes text.new ≡ string_bytes text.old ++ loop_line index strip.now) }
 {
     let length = strip.length;
     let cycle = strip.cycle;
@@ -49,7 +50,8 @@ fn write_line(text: &mut String, index: usize, strip: &StripSettings) -> Result<
 
 /// Writes the lines of all loops, by index.
 fn write_lines(text: &mut String, strips: &[StripSettings]) -> Result<(), AllocError>
-    ensures { OnOk result (string_bytes text.new ≡ string_bytes text.old ++ loop_lines_then 0 strips.now []) }
+    ensures { OnOk result
+        (string_bytes text.new ≡ string_bytes text.old ++ loop_lines_then 0 strips.now []) }
 {
     'strips: for index in 0..strips.len() {
         write_line(text, index, &strips[index])?;

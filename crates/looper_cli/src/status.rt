@@ -1,7 +1,7 @@
 //! How a run ends, and why it isn't done.
 
 ghost use Rattle.std.specs.Prelude.{◌≡◌};
-ghost use Rattle.looper_cli.specs.Statuses.{status_number, status_line, status_of, fault_kind, fault_line};
+ghost use Rattle.looper_cli.specs.Statuses.{status_number, status_line, status_of};
 
 use sl_base::Name;
 
@@ -20,27 +20,21 @@ pub enum Status {
     WriteFault,
     /// Out of memory.
     Memory,
-}
-
-/// What is wrong with a file.
-#[derive(Clone, Copy, Debug, PartialEq, Eq)]
-pub enum FileFault {
-    /// There is no such file.
-    Missing,
-    /// It isn't in the one form that is read so far.
-    NotYet,
-    /// The fault with this number, at this line of a session's text, 0 for none.
-    At(u8, u32),
+    /// The input is too long, or there are too few chunks.
+    Limit,
 }
 
 /// Why a run isn't done.
 #[derive(Drop)]
 pub enum RunFault {
-    /// The file of this name is missing, or not in its form.
-    BadFile(Name, FileFault),
+    /// The file of this name is missing or not in its form: the number of what is wrong, and the
+    /// line that it is on, or 0.
+    BadFile(Name, u8, u32),
+    /// A limit is exceeded.
+    Limit,
     /// A file could not be read.
     Reading,
-    /// OUT could not be written.
+    /// A file could not be written.
     Writing,
     /// Out of memory.
     Memory,
@@ -58,6 +52,7 @@ impl Status {
             Status::ReadFault => 4,
             Status::WriteFault => 5,
             Status::Memory => 8,
+            Status::Limit => 9,
         }
     }
 
@@ -72,29 +67,7 @@ impl Status {
             Status::ReadFault => "status 4\n",
             Status::WriteFault => "status 5\n",
             Status::Memory => "status 8\n",
-        }
-    }
-}
-
-impl FileFault {
-    /// The number of the fault.
-    pub fn kind(self) -> u8
-        ensures { result ≡ fault_kind self }
-    {
-        match self {
-            FileFault::Missing => 0,
-            FileFault::NotYet => 99,
-            FileFault::At(kind, _) => kind,
-        }
-    }
-
-    /// The line that it is on.
-    pub fn line(self) -> u32
-        ensures { result ≡ fault_line self }
-    {
-        match self {
-            FileFault::At(_, line) => line,
-            _ => 0,
+            Status::Limit => "status 9\n",
         }
     }
 }
@@ -105,7 +78,8 @@ impl RunFault {
         ensures { result ≡ status_of self.now }
     {
         match self {
-            RunFault::BadFile(_, _) => Status::BadFile,
+            RunFault::BadFile(_, _, _) => Status::BadFile,
+            RunFault::Limit => Status::Limit,
             RunFault::Reading => Status::ReadFault,
             RunFault::Writing => Status::WriteFault,
             RunFault::Memory => Status::Memory,

@@ -6,12 +6,11 @@ ghost use Rattle.std.specs.String.{string_bytes};
 ghost use Rattle.sl_base.specs.Counting.{Rose};
 ghost use Rattle.sl_ports.specs.Effects.{TellsTo};
 ghost use Rattle.sl_ports.specs.Texts.{AppendsPrefix};
-ghost use Rattle.looper_cli.specs.Named.{asked_by};
-ghost use Rattle.looper_cli.specs.Endings.{Ends, Does, StaysWhole, IsDone, NamesBad, IsBadFor, CannotWrite};
+ghost use Rattle.looper_cli.specs.Named.{asked_by, IsNamedBy};
+ghost use Rattle.looper_cli.specs.Endings.{Ends, Does, StaysWhole, IsDone, NamesBad, IsBadFor, CannotWrite, IsBeyondFor, WritesAtMost};
 ghost use Rattle.looper_cli.specs.Statuses.{IsStatusNumber, status_line};
 ghost use Rattle.looper_cli.specs.Words.{asked_in};
-ghost use Rattle.looper_cli.specs.declared.status.FileFault.{FileFault};
-ghost use Rattle.looper_cli.specs.declared.status.Status.TheVariants.{Words as Other, ReadFault, WriteFault};
+ghost use Rattle.looper_cli.specs.declared.status.Status.TheVariants.{Words as Other, ReadFault, WriteFault, Limit};
 
 use crate::console::{tell, tell_done, tell_fault};
 use crate::render::render;
@@ -23,10 +22,11 @@ use std::alloc::Global;
 
 /// Does what the words ask for, and gives the text that tells of it.
 fn run<P: Keeper>(alloc: Global, keeper: &mut P, words: &Words) -> Result<String, RunFault>
-    ensures { Does P.Keeper (asked_by words.now) keeper.old keeper.new result }
+    ensures named { IsNamedBy (asked_by words.now) }
+    ensures does { Does P.Keeper (asked_by words.now) keeper.old keeper.new result }
 {
     match words {
-        Words::Render(files) => render(alloc, keeper, files),
+        Words::Render(asked) => render(alloc, keeper, asked),
         Words::Show(session) => show(alloc, keeper, session),
     }
 }
@@ -38,7 +38,8 @@ fn run_and_tell<P: Keeper, C: Sink>(
     keeper: &mut P,
     console: &mut C,
 ) -> Status
-    ensures { Ends P.Keeper C.Sink (asked_by words.now)
+    ensures named { IsNamedBy (asked_by words.now) }
+    ensures ends { Ends P.Keeper C.Sink (asked_by words.now)
         keeper.old keeper.new console.old console.new result }
 {
     match run(alloc, keeper, words) {
@@ -49,9 +50,10 @@ fn run_and_tell<P: Keeper, C: Sink>(
 
 /// Runs the words, over files and a console, and gives the exit status.
 ///
-/// `render IN JOURNAL OUT` plays the WAV file IN into the loop with the commands of JOURNAL, and writes what is heard
-/// to the WAV file OUT. OUT may be one of the others. `show NAME` tells a session's loops. Statuses: 0 done, 2 other words, 3 a bad file, 4 a reading
-/// failed, 5 a write failed, 8 out of memory.
+/// `render IN JOURNAL OUT` plays the WAV file IN into the loops by the commands of JOURNAL, writes
+/// the files of all saves, and at last what is heard to the WAV file OUT. OUT may be one of the
+/// others. `show NAME` tells a session's loops. Statuses: 0 done, 2 other words, 3 a bad file, 4 a
+/// reading failed, 5 a write failed, 8 out of memory, 9 a limit is exceeded.
 pub fn plain_run<P: Keeper, C: Sink>(
     alloc: Global,
     words: &[String],
@@ -64,22 +66,32 @@ pub fn plain_run<P: Keeper, C: Sink>(
     ensures words { (result ≡ 2) ↔ (asked_in (map string_bytes words.now) ≡ None) }
     ensures words_text { result ≡ 2 → TellsTo C.Sink console.old console.new (status_line Other) }
 
-    // At 0, OUT is the WAV text of the run over what IN and JOURNAL held, or the session's loops are told; no count rose.
+    // At 0, the files of the run's saves and OUT are written and its replies told, or the session's
+    // loops are told; no count rose.
     ensures done { result ≡ 0 → IfSome (asked_in (map string_bytes words.now)) (λ asked.
         IsDone asked (P.files keeper.old) (P.files keeper.new)
         (Appends (C.held console.old) (C.held console.new))) }
     ensures counts { result ≡ 0 →
         StaysWhole P.Keeper keeper.old keeper.new × (C.faults console.new ≡ C.faults console.old) }
 
-    // 3 comes exactly where IN, or else JOURNAL, is missing or in another form, or the session has a bad file, unless 4 or 8 does.
+    // 3 comes exactly where a file is missing or not in its form, unless 4 or 8 does.
     ensures bad_file { result ≡ 3 → IfSome (asked_in (map string_bytes words.now)) (λ asked.
         NamesBad asked (P.files keeper.old) (TellsTo C.Sink console.old console.new)) }
     ensures bad_file_always { IfSome (asked_in (map string_bytes words.now)) (λ asked.
         IfSome (P.files keeper.old) (λ files.
-        (name : List ℕ) (fault : FileFault) → IsBadFor asked (Some files) name fault →
+        (name : List ℕ) (kind line : ℕ) → IsBadFor asked (Some files) name kind line →
         (result ≡ 3) ⊎ (result ≡ 4) ⊎ (result ≡ 8))) }
 
-    // 4 comes only where the count of readings rose, 5 only where the count of writes or the console's did.
+    // 9 comes exactly where all files are good and a limit is exceeded, unless 4 or 8 does.
+    ensures limit { result ≡ 9 → IfSome (asked_in (map string_bytes words.now)) (λ asked.
+        IsBeyondFor asked (P.files keeper.old))
+        × TellsTo C.Sink console.old console.new (status_line Limit) }
+    ensures limit_always { IfSome (asked_in (map string_bytes words.now)) (λ asked.
+        IfSome (P.files keeper.old) (λ files. IsBeyondFor asked (Some files) →
+        (result ≡ 4) ⊎ (result ≡ 8) ⊎ (result ≡ 9))) }
+
+    // 4 comes only where the count of readings rose, 5 only where the count of writes or the
+    // console's did.
     ensures read_fault { result ≡ 4 → Rose (P.read_faults keeper.old) (P.read_faults keeper.new)
         × TellsTo C.Sink console.old console.new (status_line ReadFault) }
     ensures write_fault { result ≡ 5 → IfSome (asked_in (map string_bytes words.now)) (λ asked.
@@ -89,10 +101,13 @@ pub fn plain_run<P: Keeper, C: Sink>(
         × IsDone asked (P.files keeper.old) (P.files keeper.new)
         (AppendsPrefix (C.held console.old) (C.held console.new)))) }
 
-    // Files change at 0 and 5 alone, and 8 tells nothing.
-    ensures unchanged { (result ≡ 2) ⊎ (result ≡ 3) ⊎ (result ≡ 4) ⊎ (result ≡ 8) →
+    // Files change at 0, 5 and 8 alone, at 8 by the first files of the run at most; and 8 tells
+    // nothing.
+    ensures unchanged { (result ≡ 2) ⊎ (result ≡ 3) ⊎ (result ≡ 4) ⊎ (result ≡ 9) →
         P.files keeper.new ≡ P.files keeper.old }
-    ensures memory { result ≡ 8 → console.new ≡ console.old }
+    ensures memory { result ≡ 8 → IfSome (asked_in (map string_bytes words.now)) (λ asked.
+        WritesAtMost asked (P.files keeper.old) (P.files keeper.new))
+        × (console.new ≡ console.old) }
 {
     match words_of(words) {
         Ok(words) => run_and_tell(alloc, &words, keeper, console).number(),

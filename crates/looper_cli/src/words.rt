@@ -1,15 +1,18 @@
 //! The words of the command line.
 
-ghost use Rattle.std.specs.Prelude.{map};
+ghost use Rattle.std.specs.Prelude.{◌≡◌, ◌∷◌, map, List, ℕ};
 ghost use Rattle.std.specs.String.{string_bytes};
-ghost use Rattle.looper_cli.specs.Words.{render_of, show_of, asked_in};
-ghost use Rattle.looper_cli.specs.Named.{GivesAsked};
+ghost use Rattle.run_files.specs.Named.{IsNamed};
+ghost use Rattle.looper_cli.specs.Words.{run_with, run_named, render_in, show_in, asked_in};
+ghost use Rattle.looper_cli.specs.Named.{GivesAsked, named_of};
 
-use sl_base::{MAX_SESSION_NAME, Name};
+use crate::options::{Options, options_of, session_of};
+use run_files::Sources;
+use sl_base::Name;
 use std::marker::Model;
 use thiserror::Error;
 
-/// The files that a run of `render` names.
+/// What `render` is asked for.
 #[derive(Drop)]
 pub struct Render {
     /// The WAV file that is played into the looper.
@@ -18,6 +21,66 @@ pub struct Render {
     pub journal: Name,
     /// The WAV file that is written. It may be one of the others.
     pub out: Name,
+    /// The most frames that are processed at once, 1 to 8192.
+    pub period: u32,
+    /// The chunks of 4096 frames that all loops share, 1 to 32768.
+    pub chunks: u32,
+    /// How many empty loops there are where no session is named, 1 to 16.
+    pub loops: u8,
+    /// The session that the loops begin with, at most 48 bytes.
+    pub session: Option<Name>,
+}
+
+impl Model for Render {
+    ghost use Rattle.looper_cli.specs.Words.{RenderAsked};
+    ghost use Rattle.looper_cli.specs.Asking.{IsRenderAsked};
+
+    ghost Value = { RenderAsked };
+
+    ghost view = { λ r. record {
+      input = r.input;
+      journal = r.journal;
+      out = r.out;
+      period = r.period;
+      chunks = r.chunks;
+      loops = r.loops;
+      session = r.session;
+    } };
+
+    ghost invariant = { λ r. IsRenderAsked (record {
+      input = r.input;
+      journal = r.journal;
+      out = r.out;
+      period = r.period;
+      chunks = r.chunks;
+      loops = r.loops;
+      session = r.session;
+    }) };
+}
+
+impl Render {
+    /// The files that it is read from.
+    pub fn sources(&self) -> Sources
+        ensures value { result ≡ named_of self.now }
+        ensures within { IsNamed (named_of self.now) }
+    {
+        Sources {
+            input: self.input.duplicate(),
+            session: same_name(&self.session),
+            loops: self.loops,
+            journal: self.journal.duplicate(),
+            chunks: self.chunks,
+        }
+    }
+}
+
+fn same_name(name: &Option<Name>) -> Option<Name>
+    ensures { result ≡ name.now }
+{
+    match name {
+        Some(name) => Some(name.duplicate()),
+        None => None,
+    }
 }
 
 /// The session that `show` looks at.
@@ -41,7 +104,7 @@ impl Model for Show {
 /// What the words ask for, one variant a command.
 #[derive(Drop)]
 pub enum Words {
-    /// `render IN JOURNAL OUT`.
+    /// `render IN JOURNAL OUT` with its options.
     Render(Render),
     /// `show NAME`.
     Show(Show),
@@ -51,17 +114,37 @@ pub enum Words {
 #[derive(Clone, Copy, Debug, PartialEq, Eq, Error)]
 pub enum WordsFault {
     /// They aren't in the grammar.
-    #[error("the words are neither `render IN JOURNAL OUT` nor `show NAME`")]
+    #[error("the words are neither `render IN JOURNAL OUT` with its options nor `show NAME`")]
     Words,
 }
 
-/// The run that four words name.
-fn render_of(first: &[u8], input: &[u8], journal: &[u8], out: &[u8]) -> Result<Words, WordsFault>
-    ensures { GivesAsked (render_of first.now (record { input = input.now; journal = journal.now; out = out.now })) result }
+/// The run of these names with these options.
+fn run_of(input: Name, journal: Name, out: Name, options: Options) -> Result<Words, WordsFault>
+    ensures { GivesAsked (run_with input journal out options) result }
 {
-    if first != b"render".as_slice() {
+    if options.loops.is_some() && options.session.is_some() {
         return Err(WordsFault::Words);
     }
+    Ok(Words::Render(Render {
+        input,
+        journal,
+        out,
+        period: options.period.unwrap_or(1024),
+        chunks: options.chunks.unwrap_or(4096),
+        loops: options.loops.unwrap_or(1) as u8,
+        session: options.session,
+    }))
+}
+
+/// The run of three words with these options.
+fn run_named(
+    input: &[u8],
+    journal: &[u8],
+    out: &[u8],
+    options: Option<Options>,
+) -> Result<Words, WordsFault>
+    ensures { GivesAsked (run_named input.now journal.now out.now options) result }
+{
     let Some(input) = Name::read(input) else {
         return Err(WordsFault::Words);
     };
@@ -71,41 +154,53 @@ fn render_of(first: &[u8], input: &[u8], journal: &[u8], out: &[u8]) -> Result<W
     let Some(out) = Name::read(out) else {
         return Err(WordsFault::Words);
     };
-    Ok(Words::Render(Render {
-        input,
-        journal,
-        out,
-    }))
+    match options {
+        Some(options) => run_of(input, journal, out, options),
+        None => Err(WordsFault::Words),
+    }
 }
 
-/// The session that two words name.
-fn show_of(first: &[u8], name: &[u8]) -> Result<Words, WordsFault>
-    ensures { GivesAsked (show_of first.now name.now) result }
+/// The run that the words behind `render` name.
+fn render_of(words: &[String]) -> Result<Words, WordsFault>
+    ensures { GivesAsked (render_in (map string_bytes words.now)) result }
 {
-    if first != b"show".as_slice() || name.len() > MAX_SESSION_NAME {
+    if words.len() < 3 {
         return Err(WordsFault::Words);
     }
-    let Some(name) = Name::read(name) else {
-        return Err(WordsFault::Words);
-    };
-    Ok(Words::Show(Show { name }))
-}
-
-/// What the words ask for: `render IN JOURNAL OUT`, byte for byte, each of the three a file's name, or
-/// `show NAME` with a session's name.
-pub fn words_of(words: &[String]) -> Result<Words, WordsFault>
-    ensures { GivesAsked (asked_in (map string_bytes words.now)) result }
-{
-    if words.len() == 2 {
-        return show_of(words[0].as_bytes(), words[1].as_bytes());
-    }
-    if words.len() != 4 {
-        return Err(WordsFault::Words);
-    }
-    render_of(
+    run_named(
         words[0].as_bytes(),
         words[1].as_bytes(),
         words[2].as_bytes(),
-        words[3].as_bytes(),
+        options_of(words.split_at(3).1),
     )
+}
+
+/// The session that the words behind `show` name.
+fn show_of(words: &[String]) -> Result<Words, WordsFault>
+    ensures { GivesAsked (show_in (map string_bytes words.now)) result }
+{
+    if words.len() != 1 {
+        return Err(WordsFault::Words);
+    }
+    match session_of(words[0].as_bytes()) {
+        Some(name) => Ok(Words::Show(Show { name })),
+        None => Err(WordsFault::Words),
+    }
+}
+
+/// What the words ask for: `render IN JOURNAL OUT` with options behind it in any order, each at
+/// most once, or `show NAME`, byte for byte.
+pub fn words_of(words: &[String]) -> Result<Words, WordsFault>
+    ensures { GivesAsked (asked_in (map string_bytes words.now)) result }
+{
+    let Some((first, rest)) = words.split_first() else {
+        return Err(WordsFault::Words);
+    };
+    if first.as_bytes() == b"render".as_slice() {
+        return render_of(rest);
+    }
+    if first.as_bytes() == b"show".as_slice() {
+        return show_of(rest);
+    }
+    Err(WordsFault::Words)
 }

@@ -26,6 +26,8 @@ const THREE_HITS: &[u8] =
 
 const NO_HITS: &[u8] = b"looper journal 1\nend\n";
 
+const NO_END: &[u8] = b"looper journal 1\n0 0 0 hit 0 record\n4 0 1 hit 0 record\n";
+
 const DONE: &[u8] = b"frames 8 entries 2 replies 0 saves 0 refused 0\nstatus 0\n";
 
 /// A run: its words, its two files, and the numbers of the calls that fail. Then how it has to end.
@@ -119,6 +121,17 @@ fn an_empty_input_gives_an_empty_output(rt: HostRuntime) -> Result<(), Fail> {
 }
 
 #[test]
+fn a_hit_behind_the_last_frame_is_heard_of_no_more(rt: HostRuntime) -> Result<(), Fail> {
+    let run = Run {
+        title: "a third hit",
+        journal: THREE_HITS,
+        console: b"frames 8 entries 3 replies 0 saves 0 refused 0\nstatus 0\n",
+        ..smallest()
+    };
+    ends_as_told(&rt, rt.alloc(), &run)
+}
+
+#[test]
 fn what_is_wrong_with_words_and_files_is_told(rt: HostRuntime) -> Result<(), Fail> {
     let runs = [
         Run {
@@ -138,10 +151,10 @@ fn what_is_wrong_with_words_and_files_is_told(rt: HostRuntime) -> Result<(), Fai
             ..smallest()
         },
         Run {
-            title: "a third hit",
-            journal: THREE_HITS,
+            title: "a journal without `end`",
+            journal: NO_END,
             status: 3,
-            console: b"file journal.txt fault 99 line 0\nstatus 3\n",
+            console: b"file journal.txt fault 6 line 4\nstatus 3\n",
             out: None,
             ..smallest()
         },
@@ -176,7 +189,7 @@ fn one_failing_call_gives_the_run_its_status(rt: HostRuntime) -> Result<(), Fail
             input: b"RIFF",
             failing_reads: &[2],
             status: 3,
-            console: b"file in.wav fault 99 line 0\nstatus 3\n",
+            console: b"file in.wav fault 1 line 0\nstatus 3\n",
             out: None,
             ..smallest()
         },

@@ -5,4 +5,6 @@ use Rattle.looper_cli.specs.Console.{length_in}
 use Rattle.looper_cli.proofs.show.frames_in.Given as goal
 
 abbrev pub invariant-strips : goal.invariant-strips
-invariant-strips l = (l.frames + sum_by length_in (drop l.index l.strips) ≡ sum_by length_in l.strips) × (l.frames ≤ l.index * 4294967295)
+invariant-strips l =
+    (l.frames + sum_by length_in (drop l.index l.strips) ≡ sum_by length_in l.strips)
+    × (l.frames ≤ l.index * 4294967295)

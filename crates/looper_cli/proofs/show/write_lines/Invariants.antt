@@ -5,4 +5,5 @@ use Rattle.looper_cli.specs.Console.{loop_lines_then}
 use Rattle.looper_cli.proofs.show.write_lines.Given as goal
 
 abbrev pub invariant-strips : goal.invariant-strips
-invariant-strips l = string_bytes l.text ++ loop_lines_then l.index (drop l.index l.strips) [] ≡ string_bytes l.fn.text ++ loop_lines_then 0 l.strips []
+invariant-strips l = string_bytes l.text ++ loop_lines_then l.index (drop l.index l.strips)
+    [] ≡ string_bytes l.fn.text ++ loop_lines_then 0 l.strips []

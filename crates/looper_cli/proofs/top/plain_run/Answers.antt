@@ -1,8 +1,17 @@
 use Rattle.std.proofs.Common.{refl}
-use Rattle.looper_cli.proofs.EndingLemmas.{bad_file_always_ends}
+use Rattle.looper_cli.proofs.EndingLemmas.{bad_file_always_ends, limit_always_ends}
 use Rattle.looper_cli.proofs.top.plain_run.Goals as goal
 
 pub returns-in-Ok-clause-bad_file_always : goal.returns-in-Ok-clause-bad_file_always
 returns-in-Ok-clause-bad_file_always g c =
-    bad_file_always_ends g.P.Keeper g.C.Sink _ _ c.args.keeper.now c.run_and_tell.new.keeper c.args.console.now c.run_and_tell.new.console c.run_and_tell.result c.number.result
-    (g.P.Keeper.files c.args.keeper.now) c.in-Ok.ensures refl c.run_and_tell.ensures c.number.ensures
+    bad_file_always_ends g.P.Keeper g.C.Sink _ _ c.args.keeper.now c.run_and_tell.new.keeper
+    c.args.console.now c.run_and_tell.new.console c.run_and_tell.result c.number.result
+    (g.P.Keeper.files c.args.keeper.now) c.in-Ok.ensures c.run_and_tell.ensures.named refl
+    c.run_and_tell.ensures.ends c.number.ensures
+
+pub returns-in-Ok-clause-limit_always : goal.returns-in-Ok-clause-limit_always
+returns-in-Ok-clause-limit_always g c =
+    limit_always_ends g.P.Keeper g.C.Sink _ _ c.args.keeper.now c.run_and_tell.new.keeper
+    c.args.console.now c.run_and_tell.new.console c.run_and_tell.result c.number.result
+    (g.P.Keeper.files c.args.keeper.now) c.in-Ok.ensures c.run_and_tell.ensures.named refl
+    c.run_and_tell.ensures.ends c.number.ensures

@@ -1,0 +1,72 @@
+-- Options are read two words at a time, and three names stand before them.
+use Rattle.std.proofs.Common.{◌≡◌, ℕ, zero, suc, ◌+◌, ◌<◌, ◌≤◌, List, [], ◌∷◌, length, map, drop, get_or, refl, sym, ap, ap₂, ◌∙◌, arith}
+use Rattle.std.specs.Prelude.{Option, Some, None}
+use Rattle.std.specs.Option.{option_and_then}
+use Rattle.looper_cli.specs.Words.{Given, Asked, none_given, with_option, options_in, run_named, render_in}
+
+-- one word alone is no option
+pub one_left : {X : Type 0} (text : X → List ℕ) (words : List X) (at : ℕ) (g : Given) →
+    at < length words → at + 1 ≡ length words → options_in (map text (drop at words)) g ≡ None
+one_left text [] at g inside last = absurd (omega arith)
+one_left text (w ∷ []) zero g inside last = refl
+one_left text (w ∷ v ∷ words) zero g inside last = absurd (omega (arith, last))
+one_left text (w ∷ words) (suc at) g inside last =
+    one_left text words at g (omega arith) (omega (arith, last))
+
+-- two words are one
+pub two_left :
+    {X : Type 0} (text : X → List ℕ) (words : List X) (at : ℕ) (g : Given) (x y : X) →
+    at + 1 < length words → x ≡ get_or words at x → y ≡ get_or words (at + 1) y →
+    options_in (map text (drop at words)) g ≡ option_and_then
+    (options_in (map text (drop (at + 2) words))) (with_option (text x) (text y) g)
+two_left text [] at g x y inside first second = absurd (omega arith)
+two_left text (w ∷ []) zero g x y inside first second = absurd (omega arith)
+two_left text (w ∷ v ∷ words) zero g x y inside first second =
+    ap₂ (λ (a : _) (b : _). option_and_then (options_in (map text words))
+    (with_option (text a) (text b) g)) (sym first) (sym second)
+two_left text (w ∷ words) (suc at) g x y inside first second =
+    two_left text words at g x y (omega arith) first (second ∙ ap (λ n. get_or (w ∷ words) n y)
+    (let next : suc at + 1 ≡ suc (at + 1) = omega arith in next))
+    ∙ ap (λ n. option_and_then (options_in (map text (drop n (w ∷ words)))) (with_option (text x)
+    (text y) g)) (let more : suc (at + 2) ≡ suc at + 2 = omega arith in more)
+
+-- so the options so far with those that are left stay the same
+pub options_on :
+    {X : Type 0} (text : X → List ℕ) (words : List X) (at : ℕ) (g next : Given) (x y : X) →
+    at + 1 < length words → x ≡ get_or words at x → y ≡ get_or words (at + 1) y →
+    Some next ≡ with_option (text x) (text y) g →
+    options_in (map text (drop (at + 2) words)) next ≡ options_in (map text (drop at words)) g
+options_on text words at g next x y inside first second is =
+    ap (option_and_then (options_in (map text (drop (at + 2) words)))) is
+    ∙ sym (two_left text words at g x y inside first second)
+
+pub options_off :
+    {X : Type 0} (text : X → List ℕ) (words : List X) (at : ℕ) (g : Given) (x y : X) →
+    at + 1 < length words → x ≡ get_or words at x → y ≡ get_or words (at + 1) y →
+    None ≡ with_option (text x) (text y) g → None ≡ options_in (map text (drop at words)) g
+options_off text words at g x y inside first second is =
+    ap (option_and_then (options_in (map text (drop (at + 2) words)))) is
+    ∙ sym (two_left text words at g x y inside first second)
+
+-- fewer than three words ask for nothing
+pub short_render : {X : Type 0} (text : X → List ℕ) (words : List X) → length words < 3 →
+    render_in (map text words) ≡ None
+short_render text [] short = refl
+short_render text (a ∷ []) short = refl
+short_render text (a ∷ b ∷ []) short = refl
+short_render text (a ∷ b ∷ c ∷ words) short = absurd (omega arith)
+
+-- the first three name the run
+pub long_render :
+    {X : Type 0} (text : X → List ℕ) (words : List X) (x y z : X) → 3 ≤ length words →
+    x ≡ get_or words 0 x → y ≡ get_or words 1 y → z ≡ get_or words 2 z →
+    render_in (map text words) ≡ run_named (text x) (text y) (text z)
+    (options_in (map text (drop 3 words)) none_given)
+long_render text [] x y z long first second third = absurd (omega arith)
+long_render text (a ∷ []) x y z long first second third = absurd (omega arith)
+long_render text (a ∷ b ∷ []) x y z long first second third = absurd (omega arith)
+long_render text (a ∷ b ∷ c ∷ words) x y z long first second third =
+    ap₂ (λ (p : _) (q : _). run_named (text p) (text q) (text c)
+    (options_in (map text words) none_given)) (sym first) (sym second)
+    ∙ ap (λ (r : _). run_named (text x) (text y) (text r) (options_in (map text words) none_given))
+    (sym third)

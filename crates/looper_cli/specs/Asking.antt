@@ -1,0 +1,25 @@
+-- The numbers and names that words give lie in their ranges.
+-- "The words of the command line" in docs/formats.md.
+use Rattle.std.specs.Prelude.{◌≤◌, ℕ, length, Option, IfSome}
+use Rattle.sl_base.specs.Limits.{max_period, max_chunks, max_loops, max_session_name}
+use Rattle.looper_cli.specs.Words.{RenderAsked, Given}
+
+-- a number that was given lies from 1 to the most
+abbrev pub IsUpTo : ℕ → Option ℕ → Type 0
+IsUpTo most given = IfSome given (λ n. (1 ≤ n) × (n ≤ most))
+
+-- options in their ranges
+pub record AreOptions (g : Given) : Type 0 where
+  pub period : IsUpTo max_period g.period
+  pub chunks : IsUpTo max_chunks g.chunks
+  pub loops : IsUpTo max_loops g.loops
+  pub session : IfSome g.session (λ name. length name ≤ max_session_name)
+
+-- what a run is asked for lies in its ranges
+pub record IsRenderAsked (r : RenderAsked) : Type 0 where
+  pub period_from : 1 ≤ r.period
+  pub period_within : r.period ≤ max_period
+  pub chunks : r.chunks ≤ max_chunks
+  pub loops_from : 1 ≤ r.loops
+  pub loops_within : r.loops ≤ max_loops
+  pub session : IfSome r.session (λ name. length name ≤ max_session_name)
