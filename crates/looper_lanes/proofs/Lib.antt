@@ -1,12 +1,6 @@
-pub mod LaneLemmas
-pub mod StepLemmas
-pub mod SweepLemmas
-pub mod SumLemmas
-pub mod TracksLemmas
 pub mod MixLemmas
-pub mod ReadLemmas
 pub mod SpanLemmas
 pub mod CalmLemmas
 pub mod FramesLemmas
-pub mod LoadLemmas
+pub mod BeginLemmas
 pub mod LooperLemmas

@@ -24,11 +24,11 @@ use Rattle.looper_rules.specs.Looper.{Asker, Track, Looper, face_on, swept, itse
 use Rattle.looper_rules.specs.Frame.{at_boundary, at_boundaries}
 use Rattle.looper_rules.specs.Saves.{Save, strip_on, settings_of, pinned_for, loop_released, session_released, save_refusal, session_refusal, any_pinned}
 use Rattle.looper_rules.specs.Entries.{with_save_of, saves_loop, saves_session, releases, refusal_at, track_of, loop_save, session_save, unless_refused, save_of}
-use Rattle.looper_lanes.specs.Tracks.{TracksOf, free_among, IsFreeAt, IsFreeOn, DidTracks}
+use Rattle.looper_tracks.specs.Tracks.{TracksOf, free_among, IsFreeAt, IsFreeOn, DidTracks}
 use Rattle.looper_lanes.specs.Loopers.{looper_of, IsReached}
 use Rattle.looper_laws.proofs.Kept.Settings.{selected_range}
 use Rattle.looper_laws.proofs.Saves.Made.{settings_valid}
-use Rattle.looper_lanes.proofs.SweepLemmas.{swept_map, at_index_any}
+use Rattle.looper_tracks.proofs.SweepLemmas.{swept_map, at_index_any}
 
 -- the looper with other tracks
 with_tracks : (rate : ℕ) (g : Globals) (dry saves chunks chunks' : ℕ) (ts ts' : List Track) → chunks' ≡ chunks → ts' ≡ ts →

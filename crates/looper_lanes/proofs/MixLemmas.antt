@@ -6,7 +6,7 @@ use Rattle.looper_rules.specs.Room.{chunks_of}
 use Rattle.looper_rules.specs.Looper.{Track, Looper, tape_of, reach_of, swept, itself}
 use Rattle.looper_rules.specs.GainSpans.{gain_over, scaled_over, added, added_all}
 use Rattle.looper_rules.specs.TrackSpans.{track_over, all_over, given_of, track_of, Spanned, sums_of, spanned_from}
-use Rattle.looper_lanes.specs.Tracks.{TracksOf, free_among, DidTracks}
+use Rattle.looper_tracks.specs.Tracks.{TracksOf, free_among, DidTracks}
 use Rattle.looper_lanes.specs.Loopers.{looper_of}
 use Rattle.looper_lanes.specs.Spans.{DidSpan}
 

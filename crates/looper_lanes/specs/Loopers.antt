@@ -1,17 +1,16 @@
 -- What is read of a looper beside its controls: how often something was refused, the list that a pin holds, and that a run
 -- may have reached it.
 -- "The looper" and "Saves" in docs/rules.md.
-use Rattle.std.specs.Prelude.{◌≤◌, ℕ, IsTrue, List, [], length, sum_by, Option, Some, None, slice_get}
+use Rattle.std.specs.Prelude.{◌≤◌, ℕ, IsTrue, List, length, sum_by, slice_get}
 use Rattle.sl_base.specs.Sounds.{Sound}
 use Rattle.sl_commands.specs.declared.Globals.{Globals}
 use Rattle.sl_commands.specs.declared.Command.{Command}
 use Rattle.sl_commands.specs.declared.Entry.{Entry}
 use Rattle.sl_commands.specs.Settings.{are_globals}
-use Rattle.looper_rules.specs.Stack.{pinned_list}
-use Rattle.looper_rules.specs.Looper.{Track, Looper}
-use Rattle.looper_rules.specs.Pins.{pin_on}
+use Rattle.looper_rules.specs.Looper.{Looper}
 use Rattle.looper_rules.specs.Reached.{KeepsLooper}
-use Rattle.looper_lanes.specs.Tracks.{TracksOf}
+use Rattle.looper_tracks.specs.Tracks.{TracksOf, refused_on}
+pub use Rattle.looper_tracks.specs.Tracks.{held_on}
 
 -- the looper of these tracks
 abbrev pub looper_of : ℕ → Globals → ℕ → ℕ → TracksOf → Looper
@@ -25,18 +24,9 @@ looper_of rate globals dry saves t =
       saves = saves;
     }
 
--- how often something was refused to a track's loop
-abbrev pub refused_on : Track → ℕ
-refused_on t = t.loop.refused
-
 -- how often something was refused, over all loops
 abbrev pub refused_in : Looper → ℕ
 refused_in l = sum_by refused_on l.tracks
-
--- the list that the pin of a track holds, empty without one
-abbrev pub held_on : Option Track → List Sound
-held_on None = []
-held_on (Some t) = pinned_list (pin_on t)
 
 -- the list that the pin of the loop of this index holds
 abbrev pub pinned_at : ℕ → Looper → List Sound

@@ -10,7 +10,7 @@ use Rattle.looper_rules.specs.TrackSpans.{IsCalm, spanned_from}
 use Rattle.looper_rules.specs.Run.{begun}
 use Rattle.looper_laws.specs.Spans.{IsQuietBehindFor}
 use Rattle.sl_commands.specs.declared.Globals.{Globals}
-use Rattle.looper_lanes.specs.Tracks.{TracksOf}
+use Rattle.looper_tracks.specs.Tracks.{TracksOf}
 use Rattle.looper_lanes.specs.Loopers.{looper_of}
 
 -- frames that may be played one loop after another, the boundaries of the first being met

@@ -8,7 +8,7 @@ ghost use Rattle.looper_rules.specs.Run.{begun};
 ghost use Rattle.looper_lanes.specs.Spans.{IsSpan, HasBegun};
 
 use crate::mix::play_span;
-use crate::tracks::Tracks;
+use looper_tracks::Tracks;
 use mixer_fades::{Gain, Sum};
 use sl_base::Frame;
 use sl_commands::{Face, Globals};

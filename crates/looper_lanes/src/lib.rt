@@ -4,33 +4,25 @@
 //!   lists need more chunks than there are.
 //! - `apply` does what the rules say of an entry, valid or not, and gives its reply and whether it made a save.
 //! - `frames` plays any number of frames with no entry among them: the looper and the output are those of so many frames of
-//!   the rules, one by one. Inside, frames go in spans, one loop after another (`span`, `calm`): a span ends where a boundary
-//!   may act, where a loop may take a chunk, open or close a layer or be refused, or behind 1024 frames.
+//!   the rules, one by one. Inside, frames go in spans, one loop after another: a span ends where a boundary may act, where a
+//!   loop may take a chunk, open or close a layer or be refused, or behind 1024 frames.
 //! - What a save sends is read from the pins (`saved`).
 //! - Only `new` takes memory.
 //!
-//! Begin with `lanes`, then `apply`, `save` and `load`. Below them `tracks` has all lanes over their pool, `sweep` what is
-//! done to all in turn, and `lane` one loop with its gain. The rules are "The looper" to "The run" in docs/rules.md.
+//! Begin with `lanes`, then `apply`, `save` and `load`. Below them looper_tracks has all loops over their pool. The rules are
+//! "The looper" to "The run" in docs/rules.md.
 #![tactic(auto)]
 
 mod applied;
 mod apply;
-mod asker;
-mod calm;
-mod faces;
-mod lane;
 mod lanes;
 mod load;
 mod mix;
-mod read;
 mod refused;
 mod save;
 mod saved;
-mod span;
-mod sweep;
 #[cfg(test)]
 mod tests;
-mod tracks;
 
 pub use applied::Applied;
 pub use lanes::Lanes;

@@ -3,7 +3,7 @@
 ghost use Rattle.std.specs.Prelude.{◌≡◌, ◌≤◌, length};
 ghost use Rattle.looper_lanes.specs.Spans.{DidSpan};
 
-use crate::tracks::Tracks;
+use looper_tracks::Tracks;
 use mixer_fades::{Gain, Sum, add_span, clear_span, close_span};
 use sl_base::Frame;
 use sl_commands::Globals;

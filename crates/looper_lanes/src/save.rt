@@ -10,8 +10,8 @@ ghost use Rattle.looper_rules.specs.Entries.{reply_to, reply_index, track_of, re
 ghost use Rattle.looper_rules.specs.Saves.{session_refusal};
 
 use crate::applied::Applied;
-use crate::asker::Asker;
 use crate::lanes::Lanes;
+use looper_tracks::Asker;
 use sl_commands::{Entry, Reply, Target, What};
 
 /// The answer that ends a save.

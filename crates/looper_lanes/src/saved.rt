@@ -1,66 +1,12 @@
 //! What a save sends: the settings of the looper, and the lists that are pinned.
 
-ghost use Rattle.std.specs.Prelude.{◌≡◌, ◌≤◌, ◌<◌, ◌+◌, length, map, take, drop, slice_get};
-ghost use Rattle.looper_rules.specs.Saves.{strip_on, settings_of};
-ghost use Rattle.loop_tape.specs.Pools.{PoolOf};
-ghost use Rattle.looper_lanes.specs.Lanes.{tracks_in};
-ghost use Rattle.looper_lanes.specs.Loopers.{IsReached, refused_in, held_on, pinned_at};
+ghost use Rattle.std.specs.Prelude.{◌≡◌, ◌≤◌, ◌<◌, ◌+◌, length, take, drop};
+ghost use Rattle.looper_rules.specs.Saves.{settings_of};
+ghost use Rattle.looper_lanes.specs.Loopers.{IsReached, refused_in, pinned_at};
 
-use crate::lane::Lane;
 use crate::lanes::Lanes;
-use crate::tracks::Tracks;
 use sl_base::Frame;
-use sl_commands::{Settings, Strips};
-
-/// The settings of all lanes.
-fn strips_of(lanes: &[Lane]) -> Strips
-    requires few { length lanes.now ≤ 16 }
-    ensures { (p : PoolOf) → result ≡ map strip_on (tracks_in p lanes.now) }
-{
-    let mut strips = Strips::new();
-    for k in 0..lanes.len() {
-        strips.push(lanes[k].settings());
-    }
-    strips
-}
-
-impl Tracks {
-    /// The settings of all loops.
-    fn settings(&self) -> Strips
-        requires few { length self.now.tracks ≤ 16 }
-        ensures { result ≡ map strip_on self.now.tracks }
-    {
-        strips_of(&self.lanes)
-    }
-
-    /// The length of the pinned list of the loop of this index.
-    fn pinned_length(&self, index: usize) -> u32
-        requires index { index < length self.now.tracks }
-        ensures { result ≡ length (held_on (slice_get self.now.tracks index)) }
-    {
-        self.lanes[index].pinned_length()
-    }
-
-    /// The frames of the pinned list of the loop of this index, from a place on.
-    fn saved_span(&self, index: usize, place: u32, out: &mut [Frame])
-        requires index { index < length self.now.tracks }
-        requires place { place + length out.old ≤ length (held_on
-            (slice_get self.now.tracks index)) }
-        ensures { out.new ≡
-            take (length out.old) (drop place (held_on (slice_get self.now.tracks index))) }
-    {
-        self.lanes[index].saved_span(&self.pool, place, out);
-    }
-
-    /// Later reads of that list near this place search nothing.
-    fn seek_saved(&mut self, index: usize, place: u32)
-        ensures { self.new ≡ self.old }
-    {
-        if index < self.lanes.len() {
-            self.lanes[index].seek_saved(place);
-        }
-    }
-}
+use sl_commands::Settings;
 
 impl Lanes {
     /// The settings of the looper, with the length and the cycle of each loop's list, as a save tells them.

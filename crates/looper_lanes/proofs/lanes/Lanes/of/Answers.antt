@@ -1,5 +1,5 @@
 use Rattle.std.proofs.Common.{arith}
-use Rattle.looper_lanes.proofs.LoadLemmas.{is_lanes_new}
+use Rattle.looper_lanes.proofs.BeginLemmas.{is_lanes_new}
 use Rattle.looper_lanes.proofs.lanes.Lanes.of.Goals as goal
 
 pub invariant_of-result : goal.invariant_of-result

@@ -1,9 +1,0 @@
-use Rattle.std.proofs.Common.{◌≡◌, ◌≤◌, ◌*◌, take}
-use Rattle.std.specs.Prelude.{sum_by}
-use Rattle.loop_tape.specs.Pools.{PoolOf}
-use Rattle.looper_lanes.specs.Lanes.{tracks_in}
-use Rattle.looper_lanes.specs.Loopers.{refused_on}
-use Rattle.looper_lanes.proofs.read.refused.Given as goal
-
-abbrev pub invariant-loop-k : goal.invariant-loop-k
-invariant-loop-k l = ((p : PoolOf) → l.sum ≡ sum_by refused_on (tracks_in p (take l.k l.lanes))) × (l.sum ≤ l.k * 4294967296)

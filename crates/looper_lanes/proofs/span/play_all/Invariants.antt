@@ -1,6 +1,0 @@
-use Rattle.mixer_fades.specs.Sums.{AreSumsOf}
-use Rattle.looper_lanes.proofs.SumLemmas.{Summing}
-use Rattle.looper_lanes.proofs.span.play_all.Given as goal
-
-abbrev pub invariant-loop-k : goal.invariant-loop-k
-invariant-loop-k l = Summing l.step l.input l.fn.lanes l.fn.pool l.fn.sums l.lanes l.pool l.sums l.k × AreSumsOf l.k l.sums

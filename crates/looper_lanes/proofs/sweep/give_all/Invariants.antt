@@ -1,7 +1,0 @@
-use Rattle.looper_rules.specs.Looper.{on_loop}
-use Rattle.loop_strip.specs.Strips.{gives}
-use Rattle.looper_lanes.proofs.SweepLemmas.{Sweeping}
-use Rattle.looper_lanes.proofs.sweep.give_all.Given as goal
-
-abbrev pub invariant-loop-k : goal.invariant-loop-k
-invariant-loop-k l = Sweeping (on_loop (gives l.press l.verb l.frame l.long_press)) l.fn.lanes l.fn.pool l.lanes l.pool l.k

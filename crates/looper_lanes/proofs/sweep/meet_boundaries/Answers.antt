@@ -1,6 +1,0 @@
-use Rattle.std.proofs.Common.{rules}
-use Rattle.looper_lanes.proofs.SweepLemmas.{sweeping_more}
-use Rattle.looper_lanes.proofs.sweep.meet_boundaries.Goals as goal
-
-pub loop-k-preserved : goal.loop-k-preserved
-loop-k-preserved c = search (rules, sweeping_more)

@@ -1,5 +1,0 @@
-use Rattle.looper_lanes.proofs.SweepLemmas.{sweeping_alone}
-use Rattle.looper_lanes.proofs.sweep.release_all.Goals as goal
-
-pub loop-k-preserved : goal.loop-k-preserved
-loop-k-preserved c = sweeping_alone _ _ _ _ _ _ _ c.loop-k.invariant c.loop-k-test.true c.release_session.ensures

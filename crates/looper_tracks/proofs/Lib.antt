@@ -1,0 +1,9 @@
+pub mod LaneLemmas
+pub mod StepLemmas
+pub mod SweepLemmas
+pub mod SumLemmas
+pub mod TracksLemmas
+pub mod ReadLemmas
+pub mod SpanLemmas
+pub mod CalmLemmas
+pub mod LoadLemmas
