@@ -39,37 +39,57 @@ use Rattle.journal_run.proofs.ClipLemmas.{run-clipped}
 use Rattle.journal_run.proofs.InputLemmas.{span_more}
 
 -- more replies are more lines
-reply_lines-append : (rs more : List Reply) → reply_lines (rs ++ more) ≡ reply_lines rs ++ reply_lines more
+reply_lines-append : (rs more : List Reply) →
+    reply_lines (rs ++ more) ≡ reply_lines rs ++ reply_lines more
 reply_lines-append [] more = refl
-reply_lines-append (r ∷ rs) more = ap (λ (l : List ℕ). reply_line r ++ l) (reply_lines-append rs more) ∙ sym (append_assoc (reply_line r) (reply_lines rs) (reply_lines more))
+reply_lines-append (r ∷ rs) more =
+    ap (λ (l : List ℕ). reply_line r ++ l) (reply_lines-append rs more)
+    ∙ sym (append_assoc (reply_line r) (reply_lines rs) (reply_lines more))
 
 -- more saves have more files
-pub files_for_all-append : (rate : ℕ) (ss more : List Save) → files_for_all rate (ss ++ more) ≡ files_for_all rate ss ++ files_for_all rate more
+pub files_for_all-append : (rate : ℕ) (ss more : List Save) →
+    files_for_all rate (ss ++ more) ≡ files_for_all rate ss ++ files_for_all rate more
 files_for_all-append rate [] more = refl
 files_for_all-append rate (s ∷ ss) more =
-    ap (λ (fs : List SavedFile). files_of_save rate s ++ fs) (files_for_all-append rate ss more) ∙ sym (append_assoc (files_of_save rate s) (files_for_all rate ss) (files_for_all rate more))
+    ap (λ (fs : List SavedFile). files_of_save rate s ++ fs) (files_for_all-append rate ss more)
+        ∙ sym
+        (append_assoc (files_of_save rate s) (files_for_all rate ss) (files_for_all rate more))
 
 -- a span and the one behind it are one
-spans_join : (from done count : ℕ) (frames : List Sound) → from ≤ done → span_of from (done + count - from) frames ≡ span_of from (done - from) frames ++ span_of done count frames
+spans_join : (from done count : ℕ) (frames : List Sound) → from ≤ done →
+    span_of from (done + count - from) frames
+    ≡ span_of from (done - from) frames ++ span_of done count frames
 spans_join from done count frames order =
-    ap (λ n. span_of from n frames) (let all : done + count - from ≡ done - from + count = omega arith in all)
+    ap (λ n. span_of from n frames) (let all : done + count - from ≡ done - from + count =
+        omega arith in all)
     ∙ span_more from (done - from) count frames
-    ∙ ap (λ n. span_of from (done - from) frames ++ span_of n count frames) (let here : from + (done - from) ≡ done = omega arith in here)
+    ∙ ap (λ n. span_of from (done - from) frames ++ span_of n count frames)
+        (let here : from + (done - from) ≡ done = omega arith in here)
 
 -- the run comes on by frames
 pub come_frames :
-    {P : Type 0} (k : Keeper P) (b : Beginning) (es : List Entry) (input : InputOf) (start : P) (done until taken : ℕ) (now : P) (saver : SaverOf) (e next : EngineOf) (out longer text : List ℕ) (replies : ℕ) →
-    done ≤ until → until ≤ length input.frames → HasCome k b es input start done taken now saver e out text replies →
+    {P : Type 0} (k : Keeper P) (b : Beginning) (es : List Entry) (input : InputOf) (start : P)
+        (done until taken : ℕ) (now : P) (saver : SaverOf) (e next : EngineOf)
+        (out longer text : List ℕ) (replies : ℕ) →
+    done ≤ until → until ≤ length input.frames →
+        HasCome k b es input start done taken now saver e out text replies →
     next ≡ went_on (span_of done (until - done) input.frames) e →
-    longer ≡ out ++ samples input.channels input.bits (put_out (span_of done (until - done) input.frames) e) →
+    longer
+        ≡ out ++ samples input.channels input.bits
+        (put_out (span_of done (until - done) input.frames) e) →
     HasCome k b es input start until taken now saver next longer text replies
-come_frames k b es input start done until taken now saver e next out longer text replies order within come next_is longer_is =
+come_frames k b es input start done until taken now saver e next out longer text replies order
+    within come next_is longer_is =
     let xs = span_of done (until - done) input.frames in
     let s = come.so_far in
-    subst (λ n. HasCome k b es input start until taken now saver n longer text replies) (sym next_is) (record {
+    subst (λ n. HasCome k b es input start until taken now saver n longer text replies)
+        (sym next_is) (record {
       so_far = with_frames xs (put_out xs e) s;
       step = went_on_in_step b s xs e come.step;
-      frames = ap (λ (ys : List Sound). ys ++ xs) come.frames ∙ sym (take-add done (until - done) input.frames) ∙ ap (λ n. take n input.frames) (let all : done + (until - done) ≡ until = omega arith in all);
+      frames = ap (λ (ys : List Sound). ys ++ xs) come.frames
+          ∙ sym (take-add done (until - done) input.frames)
+          ∙ ap (λ n. take n input.frames) (let all : done + (until - done) ≡ until = omega arith
+          in all);
       entries = come.entries;
       quota = come.quota;
       none = come.none;
@@ -77,8 +97,11 @@ come_frames k b es input start done until taken now saver e next out longer text
       rate = come.rate;
       heard = longer_is
           ∙ ap (λ (o : List ℕ). o ++ samples input.channels input.bits (put_out xs e)) come.heard
-          ∙ append_assoc (head_of input) (samples input.channels input.bits s.output) (samples input.channels input.bits (put_out xs e))
-          ∙ ap (λ (o : List ℕ). head_of input ++ o) (sym (flat_map-append (frame_bytes input.channels input.bits) s.output (put_out xs e)));
+          ∙ append_assoc (head_of input) (samples input.channels input.bits s.output)
+              (samples input.channels input.bits (put_out xs e))
+          ∙ ap (λ (o : List ℕ). head_of input ++ o)
+              (sym
+              (flat_map-append (frame_bytes input.channels input.bits) s.output (put_out xs e)));
       told = come.told;
       counted = come.counted;
       few = come.few;
@@ -86,41 +109,59 @@ come_frames k b es input start done until taken now saver e next out longer text
     })
 
 -- the entry of an index, and those before and behind it
-parted : (es : List Entry) (index : ℕ) (x : Entry) → index < length es → x ≡ get_or es index x → es ≡ take index es ++ x ∷ drop (suc index) es
+parted : (es : List Entry) (index : ℕ) (x : Entry) → index < length es → x ≡ get_or es index x →
+    es ≡ take index es ++ x ∷ drop (suc index) es
 parted es index x inside is =
-    sym (take-append-drop index es) ∙ ap (λ (ds : List Entry). take index es ++ ds) (drop-cons es index x inside ∙ ap (λ y. y ∷ drop (suc index) es) (sym is))
+    sym (take-append-drop index es)
+        ∙ ap (λ (ds : List Entry). take index es ++ ds) (drop-cons es index x inside
+        ∙ ap (λ y. y ∷ drop (suc index) es) (sym is))
 
 -- clipping changes no sender
-senders_clipped : (count sender : ℕ) (es : List Entry) → next_seq sender (all_clipped count es) ≡ next_seq sender es
+senders_clipped : (count sender : ℕ) (es : List Entry) →
+    next_seq sender (all_clipped count es) ≡ next_seq sender es
 senders_clipped count sender [] = refl
 senders_clipped count sender (e ∷ es) = by (e.sender == sender) (senders_clipped count sender es)
   where
     by : (is : Bool) → next_seq sender (all_clipped count es) ≡ next_seq sender es →
-        length (cond is (clipped count e ∷ entries_of sender (all_clipped count es)) (entries_of sender (all_clipped count es)))
+        length
+            (cond is (clipped count e ∷ entries_of sender (all_clipped count es))
+            (entries_of sender (all_clipped count es)))
         ≡ length (cond is (e ∷ entries_of sender es) (entries_of sender es))
     by true rest = ap suc rest
     by false rest = rest
 
 -- an entry may stand behind those before it
-next_at : (es : List Entry) (index : ℕ) (x : Entry) → IsTrue (are_stamped es) → index < length es → x ≡ get_or es index x → may_be_next (take index es) x ≡ true
+next_at : (es : List Entry) (index : ℕ) (x : Entry) → IsTrue (are_stamped es) → index < length es →
+    x ≡ get_or es index x → may_be_next (take index es) x ≡ true
 next_at es index x stamped inside is =
-    let whole : are_stamped (take index es ++ x ∷ drop (suc index) es) ≡ true = ap are_stamped (sym (parted es index x inside is)) ∙ stamped in
-    let both = and_parts (are_stamped_behind [] (take index es)) (are_stamped_behind ([] ++ take index es) (x ∷ drop (suc index) es)) (sym (are_stamped_behind-append [] (take index es) (x ∷ drop (suc index) es)) ∙ whole) in
+    let whole : are_stamped (take index es ++ x ∷ drop (suc index) es) ≡ true =
+        ap are_stamped (sym (parted es index x inside is)) ∙ stamped in
+    let both =
+        and_parts (are_stamped_behind [] (take index es))
+        (are_stamped_behind ([] ++ take index es) (x ∷ drop (suc index) es))
+        (sym (are_stamped_behind-append [] (take index es) (x ∷ drop (suc index) es)) ∙ whole) in
     (and_parts (may_be_next (take index es) x) _ both.1).0
 
 -- it has its sender's next number, and its frame isn't below the last
-seq_at : (es : List Entry) (index : ℕ) (x : Entry) → IsTrue (are_stamped es) → index < length es → x ≡ get_or es index x → x.seq ≡ next_seq x.sender (take index es)
+seq_at : (es : List Entry) (index : ℕ) (x : Entry) → IsTrue (are_stamped es) → index < length es →
+    x ≡ get_or es index x → x.seq ≡ next_seq x.sender (take index es)
 seq_at es index x stamped inside is =
-    let both = and_parts (nat_le (last_frame (take index es)) x.frame) (x.seq == next_seq x.sender (take index es)) (next_at es index x stamped inside is) in
+    let both =
+        and_parts (nat_le (last_frame (take index es)) x.frame)
+        (x.seq == next_seq x.sender (take index es)) (next_at es index x stamped inside is) in
     eqb-true x.seq (next_seq x.sender (take index es)) both.1
 
-pub frame_at : (es : List Entry) (index : ℕ) (x : Entry) → IsTrue (are_stamped es) → index < length es → x ≡ get_or es index x → last_frame (take index es) ≤ x.frame
+pub frame_at : (es : List Entry) (index : ℕ) (x : Entry) → IsTrue (are_stamped es) →
+    index < length es → x ≡ get_or es index x → last_frame (take index es) ≤ x.frame
 frame_at es index x stamped inside is =
-    let both = and_parts (nat_le (last_frame (take index es)) x.frame) (x.seq == next_seq x.sender (take index es)) (next_at es index x stamped inside is) in
+    let both =
+        and_parts (nat_le (last_frame (take index es)) x.frame)
+        (x.seq == next_seq x.sender (take index es)) (next_at es index x stamped inside is) in
     leb-true (last_frame (take index es)) x.frame both.0
 
 -- with one entry more
-take-push : (es : List Entry) (index : ℕ) (x : Entry) → index < length es → x ≡ get_or es index x → take (index + 1) es ≡ take index es ++ x ∷ []
+take-push : (es : List Entry) (index : ℕ) (x : Entry) → index < length es → x ≡ get_or es index x →
+    take (index + 1) es ≡ take index es ++ x ∷ []
 take-push [] index x inside is = absurd (omega arith)
 take-push (e ∷ es) zero x inside is = ap (λ y. y ∷ []) (sym is)
 take-push (e ∷ es) (suc index) x inside is =
@@ -128,45 +169,67 @@ take-push (e ∷ es) (suc index) x inside is =
     ∙ ap (λ (ys : List Entry). e ∷ ys) (take-push es index x (omega arith) is)
 
 -- where the next entry is taken
-pub played_before-push : (count : ℕ) (es : List Entry) (index : ℕ) (x : Entry) → index < length es → x ≡ get_or es index x → played_before count es (index + 1) ≡ min x.frame count
+pub played_before-push : (count : ℕ) (es : List Entry) (index : ℕ) (x : Entry) → index < length es →
+    x ≡ get_or es index x → played_before count es (index + 1) ≡ min x.frame count
 played_before-push count es index x inside is =
-    ap (λ (ys : List Entry). min (last_frame ys) count) (take-push es index x inside is) ∙ ap (λ n. min n count) (last_frame-push 0 (take index es) x)
+    ap (λ (ys : List Entry). min (last_frame ys) count) (take-push es index x inside is)
+        ∙ ap (λ n. min n count) (last_frame-push 0 (take index es) x)
 
 -- the entry that is stamped is the journal's, at the frame where it is taken
 pub stamped_so :
-    (es : List Entry) (count index : ℕ) (x : Entry) (e : EngineOf) → IsTrue (are_stamped es) → index < length es → x ≡ get_or es index x →
-    e.journal.entries ≡ all_clipped count (take index es) → e.frames ≡ min x.frame count → entry_of x.sender x.command e ≡ clipped count x
+    (es : List Entry) (count index : ℕ) (x : Entry) (e : EngineOf) → IsTrue (are_stamped es) →
+        index < length es → x ≡ get_or es index x →
+    e.journal.entries ≡ all_clipped count (take index es) → e.frames ≡ min x.frame count →
+        entry_of x.sender x.command e ≡ clipped count x
 stamped_so es count index x e stamped inside is entries frames =
-    let seq : next_seq x.sender e.journal.entries ≡ x.seq = ap (next_seq x.sender) entries ∙ senders_clipped count x.sender (take index es) ∙ sym (seq_at es index x stamped inside is) in
-    ap₂ (λ (n m : ℕ). let r : Entry = record { frame = n; sender = x.sender; seq = m; command = x.command } in r) frames seq
+    let seq : next_seq x.sender e.journal.entries ≡ x.seq = ap (next_seq x.sender) entries
+        ∙ senders_clipped count x.sender (take index es) ∙ sym (seq_at es index x stamped inside is)
+        in
+    ap₂ (λ (n m : ℕ). let r : Entry =
+        record { frame = n; sender = x.sender; seq = m; command = x.command } in r) frames seq
 
 -- so the journal is that of one entry more
 pub stamped_entries :
-    (es : List Entry) (count index : ℕ) (x : Entry) (e : EngineOf) → IsTrue (are_stamped es) → index < length es → x ≡ get_or es index x →
+    (es : List Entry) (count index : ℕ) (x : Entry) (e : EngineOf) → IsTrue (are_stamped es) →
+        index < length es → x ≡ get_or es index x →
     e.journal.entries ≡ all_clipped count (take index es) → e.frames ≡ min x.frame count →
-    e.journal.entries ++ entry_of x.sender x.command e ∷ [] ≡ all_clipped count (take (index + 1) es)
+    e.journal.entries ++ entry_of x.sender x.command e ∷ []
+        ≡ all_clipped count (take (index + 1) es)
 stamped_entries es count index x e stamped inside is entries frames =
-    ap₂ (λ (a : List Entry) (y : Entry). a ++ y ∷ []) entries (stamped_so es count index x e stamped inside is entries frames)
+    ap₂ (λ (a : List Entry) (y : Entry). a ++ y ∷ []) entries
+        (stamped_so es count index x e stamped inside is entries frames)
     ∙ sym (map-append (clipped count) (take index es) (x ∷ []))
     ∙ ap (all_clipped count) (sym (take-push es index x inside is))
 
 -- how many frames the engine has played
 pub frames_played :
-    {P : Type 0} (k : Keeper P) (b : Beginning) (es : List Entry) (input : InputOf) (start : P) (done taken : ℕ) (now : P) (saver : SaverOf) (e : EngineOf) (out text : List ℕ) (replies : ℕ) →
-    done ≤ length input.frames → HasCome k b es input start done taken now saver e out text replies → e.frames ≡ done
-frames_played k b es input start done taken now saver e out text replies within come = come.step.frames ∙ ap length come.frames ∙ length-take-le done input.frames within
+    {P : Type 0} (k : Keeper P) (b : Beginning) (es : List Entry) (input : InputOf) (start : P)
+        (done taken : ℕ) (now : P) (saver : SaverOf) (e : EngineOf) (out text : List ℕ)
+        (replies : ℕ) →
+    done ≤ length input.frames →
+        HasCome k b es input start done taken now saver e out text replies → e.frames ≡ done
+frames_played k b es input start done taken now saver e out text replies within come =
+    come.step.frames ∙ ap length come.frames ∙ length-take-le done input.frames within
 
 -- its sender has room
 pub has_room_at :
-    (es : List Entry) (count quota index : ℕ) (x : Entry) (e : EngineOf) → HasRoomFor quota es → index < length es → x ≡ get_or es index x →
-    e.journal.entries ≡ all_clipped count (take index es) → e.journal.quota ≡ quota → HasRoom x.sender e.journal
+    (es : List Entry) (count quota index : ℕ) (x : Entry) (e : EngineOf) → HasRoomFor quota es →
+        index < length es → x ≡ get_or es index x →
+    e.journal.entries ≡ all_clipped count (take index es) → e.journal.quota ≡ quota →
+        HasRoom x.sender e.journal
 has_room_at es count quota index x e room inside is entries quota_is =
     let before = next_seq x.sender (take index es) in
-    let here : next_seq x.sender e.journal.entries ≡ before = ap (next_seq x.sender) entries ∙ senders_clipped count x.sender (take index es) in
-    let all : next_seq x.sender es ≡ next_seq x.sender (take index es ++ x ∷ drop (suc index) es) = ap (next_seq x.sender) (parted es index x inside is) in
-    let split : next_seq x.sender (take index es ++ x ∷ drop (suc index) es) ≡ before + next_seq x.sender (x ∷ drop (suc index) es) =
-    ap length (filter-append (λ (f : Entry). f.sender == x.sender) (take index es) (x ∷ drop (suc index) es)) ∙ length-append (entries_of x.sender (take index es)) _ in
-    let one : next_seq x.sender (x ∷ drop (suc index) es) ≡ suc (next_seq x.sender (drop (suc index) es)) = rw (eq-eqb x.sender x.sender refl) refl in
+    let here : next_seq x.sender e.journal.entries ≡ before = ap (next_seq x.sender) entries
+        ∙ senders_clipped count x.sender (take index es) in
+    let all : next_seq x.sender es ≡ next_seq x.sender (take index es ++ x ∷ drop (suc index) es) =
+        ap (next_seq x.sender) (parted es index x inside is) in
+    let split : next_seq x.sender (take index es ++ x ∷ drop (suc index) es)
+        ≡ before + next_seq x.sender (x ∷ drop (suc index) es) =
+    ap length
+        (filter-append (λ (f : Entry). f.sender == x.sender) (take index es)
+        (x ∷ drop (suc index) es)) ∙ length-append (entries_of x.sender (take index es)) _ in
+    let one : next_seq x.sender (x ∷ drop (suc index) es)
+        ≡ suc (next_seq x.sender (drop (suc index) es)) = rw (eq-eqb x.sender x.sender refl) refl in
     let most = room x.sender in
     let quota_same = ap (room_of x.sender) quota_is in
     omega (arith, most, quota_same)
@@ -177,23 +240,35 @@ at_most_one (Some x) = omega arith
 
 -- the run comes on by an entry
 pub come_entry :
-    {P : Type 0} (k : Keeper P) (b : Beginning) (es : List Entry) (input : InputOf) (start : P) (done taken : ℕ) (x : Entry) (now later : P) (saver after : SaverOf) (e next : EngineOf)
-    (out text longer : List ℕ) (replies more : ℕ) → IsTrue (are_stamped es) → taken < length es → x ≡ get_or es taken x → done ≡ min x.frame (length input.frames) → done ≤ length input.frames →
-    HasCome k b es input start done taken now saver e out text replies → after.rate ≡ saver.rate → after.saving ≡ None → left next ≡ [] →
+    {P : Type 0} (k : Keeper P) (b : Beginning) (es : List Entry) (input : InputOf) (start : P)
+        (done taken : ℕ) (x : Entry) (now later : P) (saver after : SaverOf) (e next : EngineOf)
+    (out text longer : List ℕ) (replies more : ℕ) → IsTrue (are_stamped es) → taken < length es →
+        x ≡ get_or es taken x → done ≡ min x.frame (length input.frames) →
+        done ≤ length input.frames →
+    HasCome k b es input start done taken now saver e out text replies → after.rate ≡ saver.rate →
+        after.saving ≡ None → left next ≡ [] →
     longer ≡ text ++ reply_lines (option_to_list (reply (entry_of x.sender x.command e) e.looper)) →
     more ≡ replies + length (option_to_list (reply (entry_of x.sender x.command e) e.looper)) →
-    Writes k (files_for_all saver.rate (option_to_list (save (entry_of x.sender x.command e) e.looper))) now later Written →
-    ((s : SoFar) → IsInStep b s e → SentOn b (with_taken (reply (entry_of x.sender x.command e) e.looper) (save (entry_of x.sender x.command e) e.looper) s) next) →
-    next.journal ≡ record e.journal { entries = e.journal.entries ++ entry_of x.sender x.command e ∷ [] } →
+    Writes k
+        (files_for_all saver.rate (option_to_list (save (entry_of x.sender x.command e) e.looper)))
+        now later Written →
+    ((s : SoFar) → IsInStep b s e →
+        SentOn b
+        (with_taken (reply (entry_of x.sender x.command e) e.looper)
+        (save (entry_of x.sender x.command e) e.looper) s) next) →
+    next.journal
+        ≡ record e.journal { entries = e.journal.entries ++ entry_of x.sender x.command e ∷ [] } →
     HasCome k b es input start done (taken + 1) later after next out longer more
-come_entry k b es input start done taken x now later saver after e next out text longer replies more stamped inside is place within come rate idle none told counted files sent journal =
+come_entry k b es input start done taken x now later saver after e next out text longer replies more
+    stamped inside is place within come rate idle none told counted files sent journal =
     let s = come.so_far in
     let en = entry_of x.sender x.command e in
     let made = option_to_list (save en e.looper) in
     let answer = option_to_list (reply en e.looper) in
     let count = length input.frames in
     let on = sent s come.step in
-    let played = frames_played k b es input start done taken now saver e out text replies within come in
+    let played =
+        frames_played k b es input start done taken now saver e out text replies within come in
     record {
       so_far = record (with_taken (reply en e.looper) (save en e.looper) s) { sent = on.sent };
       step = on.step;
@@ -205,24 +280,35 @@ come_entry k b es input start done taken x now later saver after e next out text
       idle = idle;
       rate = rate ∙ come.rate;
       heard = come.heard;
-      told = told ∙ ap (λ (t : List ℕ). t ++ reply_lines answer) come.told ∙ sym (reply_lines-append s.replies answer);
-      counted = counted ∙ ap (λ n. n + length answer) come.counted ∙ sym (length-append s.replies answer);
-      few = (let before = come.few in let one = at_most_one (reply en e.looper) in omega (arith, counted));
-      files = subst (λ fs. Writes k fs start later Written) (sym (files_for_all-append b.settings.rate s.saves made))
-          (writes_more k (files_for_all b.settings.rate s.saves) (files_for_all b.settings.rate made) start now later Written come.files
+      told = told ∙ ap (λ (t : List ℕ). t ++ reply_lines answer) come.told
+          ∙ sym (reply_lines-append s.replies answer);
+      counted = counted ∙ ap (λ n. n + length answer) come.counted
+          ∙ sym (length-append s.replies answer);
+      few =
+          (let before = come.few in let one = at_most_one (reply en e.looper)
+          in omega (arith, counted));
+      files =
+          subst (λ fs. Writes k fs start later Written)
+          (sym (files_for_all-append b.settings.rate s.saves made))
+          (writes_more k (files_for_all b.settings.rate s.saves)
+              (files_for_all b.settings.rate made) start now later Written come.files
           (subst (λ r. Writes k (files_for_all r made) now later Written) come.rate files));
     }
 
 -- entries from an index on are taken no earlier
-pub all_later : (count : ℕ) (es : List Entry) (least : ℕ) → FramesNeverFall least es → (done : ℕ) → done ≤ least → done ≤ count → All (λ (e : Entry). done ≤ e.frame) (all_clipped count es)
+pub all_later : (count : ℕ) (es : List Entry) (least : ℕ) → FramesNeverFall least es → (done : ℕ) →
+    done ≤ least → done ≤ count → All (λ (e : Entry). done ≤ e.frame) (all_clipped count es)
 all_later count [] least never done early within = All-nil (λ (e : Entry). done ≤ e.frame)
 all_later count (e ∷ es) least never done early within =
     let here : done ≤ min e.frame count = (let first = never.0 in omega arith) in
-    All-cons (λ (f : Entry). done ≤ f.frame) (clipped count e) (all_clipped count es) here (all_later count es e.frame never.1 done (let first = never.0 in omega arith) within)
+    All-cons (λ (f : Entry). done ≤ f.frame) (clipped count e) (all_clipped count es) here
+        (all_later count es e.frame never.1 done (let first = never.0 in omega arith) within)
 
 -- the saves so far are the first ones of the whole run
 pub first_saves :
-    (b : Beginning) (s : SoFar) (e : EngineOf) (es : List Entry) (input : InputOf) (done taken : ℕ) → IsInStep b s e → s.input ≡ take done input.frames → done ≤ length input.frames →
+    (b : Beginning) (s : SoFar) (e : EngineOf) (es : List Entry) (input : InputOf)
+        (done taken : ℕ) → IsInStep b s e → s.input ≡ take done input.frames →
+        done ≤ length input.frames →
     e.journal.entries ≡ all_clipped (length input.frames) (take taken es) →
     All (λ (f : Entry). done ≤ f.frame) (all_clipped (length input.frames) (drop taken es)) →
     (more : List Save) × ((ran_over es input (first_looper b)).saves ≡ s.saves ++ more)
@@ -236,30 +322,48 @@ first_saves b s e es input done taken step frames within entries later =
     let so_long : length xs ≡ done = length-take-le done input.frames within in
     let up_to : All (λ (f : Entry). f.frame ≤ length xs) first =
     subst (λ fs. All (λ (f : Entry). f.frame ≤ length xs) fs) entries
-    (subst (λ n. All (λ (f : Entry). f.frame ≤ n) e.journal.entries) (step.frames ∙ ap length frames) step.before) in
-    let from : All (λ (f : Entry). length xs ≤ f.frame) next = subst (λ n. All (λ (f : Entry). n ≤ f.frame) next) (sym so_long) later in
-    let parts : all_clipped count es ≡ first ++ next = ap (all_clipped count) (sym (take-append-drop taken es)) ∙ map-append (clipped count) (take taken es) (drop taken es) in
-    let whole = ap₂ (λ (fs : List Entry) (zs : List Sound). run fs zs l) parts (sym (take-append-drop done input.frames)) ∙ run-cut first next xs ys l up_to from in
-    let begun : (run first xs l).saves ≡ s.saves = ap₂ (λ (fs : List Entry) (zs : List Sound). (run fs zs l).saves) (sym entries) (sym frames) ∙ ap (λ (r : Ran). r.saves) step.ran in
+    (subst (λ n. All (λ (f : Entry). f.frame ≤ n) e.journal.entries)
+        (step.frames ∙ ap length frames) step.before) in
+    let from : All (λ (f : Entry). length xs ≤ f.frame) next =
+        subst (λ n. All (λ (f : Entry). n ≤ f.frame) next) (sym so_long) later in
+    let parts : all_clipped count es ≡ first ++ next =
+        ap (all_clipped count) (sym (take-append-drop taken es))
+        ∙ map-append (clipped count) (take taken es) (drop taken es) in
+    let whole =
+        ap₂ (λ (fs : List Entry) (zs : List Sound). run fs zs l) parts
+        (sym (take-append-drop done input.frames)) ∙ run-cut first next xs ys l up_to from in
+    let begun : (run first xs l).saves ≡ s.saves =
+        ap₂ (λ (fs : List Entry) (zs : List Sound). (run fs zs l).saves) (sym entries) (sym frames)
+        ∙ ap (λ (r : Ran). r.saves) step.ran in
     let more = (run_from (length xs) next ys (run first xs l).looper).saves in
-    (more, ap (λ (r : Ran). r.saves) (sym (run-clipped es input.frames l) ∙ whole) ∙ ap (λ (ss : List Save). ss ++ more) begun)
+    (more, ap (λ (r : Ran). r.saves) (sym (run-clipped es input.frames l) ∙ whole)
+        ∙ ap (λ (ss : List Save). ss ++ more) begun)
 
 -- a run that stopped has written the first of the files of its saves
 pub stops_before :
-    {P : Type 0} (k : Keeper P) (fs more all : List SavedFile) (start now : P) (why : Stopped) → all ≡ fs ++ more → StopsAt k fs start now why → StopsAt k all start now why
-stops_before k fs more all start now Writing is stops = subst (λ a. Writes k a start now Failed) (sym is) (writes_failed k fs more start now stops)
-stops_before k fs more all start now NoMemory is stops = subst (λ a. Writes k a start now Memory) (sym is) (writes_wanted k fs more start now stops)
+    {P : Type 0} (k : Keeper P) (fs more all : List SavedFile) (start now : P) (why : Stopped) →
+        all ≡ fs ++ more → StopsAt k fs start now why → StopsAt k all start now why
+stops_before k fs more all start now Writing is stops =
+    subst (λ a. Writes k a start now Failed) (sym is) (writes_failed k fs more start now stops)
+stops_before k fs more all start now NoMemory is stops =
+    subst (λ a. Writes k a start now Memory) (sym is) (writes_wanted k fs more start now stops)
 
 -- a run that stopped in one save has written those before it
 pub stops_in :
-    {P : Type 0} (k : Keeper P) (fs gs : List SavedFile) (start now later : P) (why : Stopped) → Writes k fs start now Written → StopsAt k gs now later why → StopsAt k (fs ++ gs) start later why
-stops_in k fs gs start now later Writing first stops = writes_more k fs gs start now later Failed first stops
-stops_in k fs gs start now later NoMemory first stops = writes_more k fs gs start now later Memory first stops
+    {P : Type 0} (k : Keeper P) (fs gs : List SavedFile) (start now later : P) (why : Stopped) →
+        Writes k fs start now Written → StopsAt k gs now later why →
+        StopsAt k (fs ++ gs) start later why
+stops_in k fs gs start now later Writing first stops =
+    writes_more k fs gs start now later Failed first stops
+stops_in k fs gs start now later NoMemory first stops =
+    writes_more k fs gs start now later Memory first stops
 
 -- spans one behind the other
 pub spans_more :
-    (from done count : ℕ) (n : ℕ) (frames : List Sound) (e0 e1 e2 : EngineOf) → n ≡ count → from ≤ done → e1 ≡ went_on (span_of from (done - from) frames) e0 →
-    e2 ≡ went_on (span_of done n frames) e1 → e2 ≡ went_on (span_of from (done + count - from) frames) e0
+    (from done count : ℕ) (n : ℕ) (frames : List Sound) (e0 e1 e2 : EngineOf) → n ≡ count →
+        from ≤ done → e1 ≡ went_on (span_of from (done - from) frames) e0 →
+    e2 ≡ went_on (span_of done n frames) e1 →
+        e2 ≡ went_on (span_of from (done + count - from) frames) e0
 spans_more from done count n frames e0 e1 e2 same order first second =
     second
     ∙ ap₂ (λ (m : ℕ) (e : EngineOf). went_on (span_of done m frames) e) same first
@@ -267,16 +371,24 @@ spans_more from done count n frames e0 e1 e2 same order first second =
     ∙ ap (λ (xs : List Sound). went_on xs e0) (sym (spans_join from done count frames order))
 
 pub heard_more :
-    (from done count : ℕ) (n channels bits : ℕ) (frames : List Sound) (e0 e1 : EngineOf) (out0 out1 out2 : List ℕ) → n ≡ count → from ≤ done → e1 ≡ went_on (span_of from (done - from) frames) e0 →
-    out1 ≡ out0 ++ samples channels bits (put_out (span_of from (done - from) frames) e0) → out2 ≡ out1 ++ samples channels bits (put_out (span_of done n frames) e1) →
+    (from done count : ℕ) (n channels bits : ℕ) (frames : List Sound) (e0 e1 : EngineOf)
+        (out0 out1 out2 : List ℕ) → n ≡ count → from ≤ done →
+        e1 ≡ went_on (span_of from (done - from) frames) e0 →
+    out1 ≡ out0 ++ samples channels bits (put_out (span_of from (done - from) frames) e0) →
+        out2 ≡ out1 ++ samples channels bits (put_out (span_of done n frames) e1) →
     out2 ≡ out0 ++ samples channels bits (put_out (span_of from (done + count - from) frames) e0)
-heard_more from done count n channels bits frames e0 e1 out0 out1 out2 same order engine first second =
+heard_more from done count n channels bits frames e0 e1 out0 out1 out2 same order engine first
+    second =
     let xs = span_of from (done - from) frames in
     let ys = span_of done count frames in
     second
-    ∙ ap₂ (λ (m : ℕ) (e : EngineOf). out1 ++ samples channels bits (put_out (span_of done m frames) e)) same engine
+    ∙ ap₂
+        (λ (m : ℕ) (e : EngineOf).
+        out1 ++ samples channels bits (put_out (span_of done m frames) e)) same engine
     ∙ ap (λ (o : List ℕ). o ++ samples channels bits (put_out ys (went_on xs e0))) first
-    ∙ append_assoc out0 (samples channels bits (put_out xs e0)) (samples channels bits (put_out ys (went_on xs e0)))
+    ∙ append_assoc out0 (samples channels bits (put_out xs e0))
+        (samples channels bits (put_out ys (went_on xs e0)))
     ∙ ap (λ (o : List ℕ). out0 ++ o)
     (sym (flat_map-append (frame_bytes channels bits) (put_out xs e0) (put_out ys (went_on xs e0)))
-    ∙ ap (samples channels bits) (sym (put_out-append xs ys e0) ∙ ap (λ (zs : List Sound). put_out zs e0) (sym (spans_join from done count frames order))))
+    ∙ ap (samples channels bits) (sym (put_out-append xs ys e0)
+        ∙ ap (λ (zs : List Sound). put_out zs e0) (sym (spans_join from done count frames order))))

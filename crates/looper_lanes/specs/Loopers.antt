@@ -1,5 +1,5 @@
--- What is read of a looper beside its controls: how often something was refused, the list that a pin holds, and that a run
--- may have reached it.
+-- What is read of a looper beside its controls: how often something was refused, the list that a
+-- pin holds, and that a run may have reached it.
 -- "The looper" and "Saves" in docs/rules.md.
 use Rattle.std.specs.Prelude.{◌≤◌, ℕ, IsTrue, List, length, sum_by, slice_get}
 use Rattle.sl_base.specs.Sounds.{Sound}
@@ -39,9 +39,11 @@ pub record IsReached (l : Looper) : Type 0 where
 
 -- the entry of these
 abbrev pub entry_at : ℕ → ℕ → ℕ → Command → Entry
-entry_at frame sender seq command = record { frame = frame; sender = sender; seq = seq; command = command }
+entry_at frame sender seq command =
+    record { frame = frame; sender = sender; seq = seq; command = command }
 
--- what always holds of all lanes: how many there are, the looper's own controls, and room for all faces
+-- what always holds of all lanes: how many there are, the looper's own controls, and room for all
+-- faces
 pub record IsLanes (globals : Globals) (t : TracksOf) (room : ℕ) : Type 0 where
   pub some : 1 ≤ length t.tracks
   pub few : length t.tracks ≤ 16

@@ -179,7 +179,8 @@ impl Lanes {
         self.perform(entry)
     }
 
-    /// Applies a command of this sender with this number, at the frame that comes next. What isn't valid changes nothing.
+    /// Applies a command of this sender with this number, at the frame that comes next. What isn't
+    /// valid changes nothing.
     pub fn apply(&mut self, frame: u64, sender: u8, seq: u32, command: &Command) -> Applied
         requires saves { self.old.saves < max_value }
         ensures looper { self.new ≡ applied frame (entry_at frame sender seq command.now) self.old }

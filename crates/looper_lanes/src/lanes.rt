@@ -86,7 +86,8 @@ impl Lanes {
         );
     }
 
-    /// How many of these frames may be played one loop after another, the boundaries of the first being met.
+    /// How many of these frames may be played one loop after another, the boundaries of the first
+    /// being met.
     fn span_length(&mut self, frame: u64, input: &[Frame]) -> usize
         requires some { 1 ≤ length input.now }
         requires few { length input.now ≤ 1024 }
@@ -105,7 +106,8 @@ impl Lanes {
         self.tracks.quiet_frames(&input[..calm as usize])
     }
 
-    /// Lets the waiting verbs act at this frame, and tells how many of these frames may then be played one loop after another.
+    /// Lets the waiting verbs act at this frame, and tells how many of these frames may then be
+    /// played one loop after another.
     fn begin_span(&mut self, frame: u64, input: &[Frame]) -> usize
         requires some { 1 ≤ length input.now }
         requires few { length input.now ≤ 1024 }
@@ -136,7 +138,8 @@ impl Lanes {
         n
     }
 
-    /// Plays these frames, of which the first has this number, with no entry among them. `output` takes as many.
+    /// Plays these frames, of which the first has this number, with no entry among them. `output`
+    /// takes as many.
     pub fn frames(&mut self, frame: u64, input: &[Frame], output: &mut [Frame])
         requires lengths { length input.now ≡ length output.old }
         requires frame { frame + length input.now ≤ max_session_frames }

@@ -44,8 +44,9 @@ impl Lanes {
         })
     }
 
-    /// All loops of a new looper with these settings, over a pool of so many chunks, each of 4096 frames and 32 KiB, 32768 at
-    /// most. `initial` has the list of each loop by index, as long as its settings say. Only this call takes memory.
+    /// All loops of a new looper with these settings, over a pool of so many chunks, each of 4096
+    /// frames and 32 KiB, 32768 at most. `initial` has the list of each loop by index, as long as
+    /// its settings say. Only this call takes memory.
     pub fn new(
         alloc: Global,
         settings: &Settings,

@@ -36,9 +36,11 @@ impl Lanes {
         requires saves { self.old.saves < max_value }
         requires target { IsTrue (is_single_target (length self.old.tracks) target) }
         ensures looper { self.new ≡ saves_loop (refusal_at target self.old)
-            (index_of target self.old.globals.selected_loop_num) (asker_of entry.now false) self.old }
+            (index_of target self.old.globals.selected_loop_num)
+            (asker_of entry.now false) self.old }
         ensures answer { result.answer ≡
-            option_map (λ refusal. reply_to entry.now (reply_index target self.old) OfLoop (pos refusal))
+            option_map (λ refusal.
+            reply_to entry.now (reply_index target self.old) OfLoop (pos refusal))
             (refusal_at target self.old) }
         ensures save { result.made_save ≡ not (is_some (refusal_at target self.old)) }
         ensures there { is_some (track_of target self.old) ≡ true }

@@ -9,7 +9,8 @@ use sl_base::Frame;
 use sl_commands::Settings;
 
 impl Lanes {
-    /// The settings of the looper, with the length and the cycle of each loop's list, as a save tells them.
+    /// The settings of the looper, with the length and the cycle of each loop's list, as a save
+    /// tells them.
     pub fn settings(&self) -> Settings
         requires reached { IsReached self.now }
         ensures { result ≡ settings_of self.now }
@@ -51,7 +52,8 @@ impl Lanes {
         self.tracks.pinned_length(index as usize)
     }
 
-    /// The frames of the list that the pin of this loop holds, from a place on, as many as `out` has.
+    /// The frames of the list that the pin of this loop holds, from a place on, as many as `out`
+    /// has.
     pub fn saved_span(&self, index: u8, place: u32, out: &mut [Frame])
         requires index { index < length self.now.tracks }
         requires place { place + length out.old ≤ length (pinned_at index self.now) }

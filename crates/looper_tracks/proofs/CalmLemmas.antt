@@ -11,32 +11,55 @@ use Rattle.looper_tracks.specs.Lanes.{LaneOf, track_in, tracks_in}
 use Rattle.looper_tracks.proofs.ReadLemmas.{all_more}
 
 -- fewer frames are as clear
-no_boundary_fewer : (g : Globals) (frame : ℕ) (faces : List Face) (count fewer quantize : ℕ) → fewer ≤ count → NoBoundaryWithin g frame faces count quantize → NoBoundaryWithin g frame faces fewer quantize
-no_boundary_fewer g frame faces count fewer quantize le clear n some within = clear n some (omega arith)
+no_boundary_fewer : (g : Globals) (frame : ℕ) (faces : List Face) (count fewer quantize : ℕ) →
+    fewer ≤ count → NoBoundaryWithin g frame faces count quantize →
+    NoBoundaryWithin g frame faces fewer quantize
+no_boundary_fewer g frame faces count fewer quantize le clear n some within =
+    clear n some (omega arith)
 
-clear_either : (g : Globals) (frame : ℕ) (faces : List Face) (count fewer quantize : ℕ) (W : Type 0) → fewer ≤ count →
-    W ⊎ NoBoundaryWithin g frame faces count quantize → W ⊎ NoBoundaryWithin g frame faces fewer quantize
+clear_either : (g : Globals) (frame : ℕ) (faces : List Face) (count fewer quantize : ℕ)
+    (W : Type 0) → fewer ≤ count →
+    W ⊎ NoBoundaryWithin g frame faces count quantize →
+    W ⊎ NoBoundaryWithin g frame faces fewer quantize
 clear_either g frame faces count fewer quantize W le (inl none) = inl none
-clear_either g frame faces count fewer quantize W le (inr clear) = inr (no_boundary_fewer g frame faces count fewer quantize le clear)
+clear_either g frame faces count fewer quantize W le (inr clear) =
+    inr (no_boundary_fewer g frame faces count fewer quantize le clear)
 
-pub clear_fewer : (g : Globals) (frame : ℕ) (faces : List Face) (count fewer : ℕ) (t : Track) → fewer ≤ count → IsClearFor g frame faces count t → IsClearFor g frame faces fewer t
-clear_fewer g frame faces count fewer t le c = record { clear = clear_either g frame faces count fewer t.loop.controls.quantize (t.loop.deck.waiting ≡ None) le c.clear }
+pub clear_fewer : (g : Globals) (frame : ℕ) (faces : List Face) (count fewer : ℕ) (t : Track) →
+    fewer ≤ count → IsClearFor g frame faces count t → IsClearFor g frame faces fewer t
+clear_fewer g frame faces count fewer t le c =
+    record {
+      clear =
+          clear_either g frame faces count fewer t.loop.controls.quantize (t.loop.deck.waiting ≡ None) le
+          c.clear;
+    }
 
-pub clear_fewer_all : (g : Globals) (frame : ℕ) (faces : List Face) (count fewer : ℕ) (ts : List Track) → fewer ≤ count → AllByRecursion (IsClearFor g frame faces count) ts → AllByRecursion (IsClearFor g frame faces fewer) ts
+pub clear_fewer_all : (g : Globals) (frame : ℕ) (faces : List Face) (count fewer : ℕ)
+    (ts : List Track) → fewer ≤ count → AllByRecursion (IsClearFor g frame faces count) ts →
+    AllByRecursion (IsClearFor g frame faces fewer) ts
 clear_fewer_all g frame faces count fewer [] le all = tt
-clear_fewer_all g frame faces count fewer (t ∷ ts) le all = (clear_fewer g frame faces count fewer t le all.0, clear_fewer_all g frame faces count fewer ts le all.1)
+clear_fewer_all g frame faces count fewer (t ∷ ts) le all = (
+  clear_fewer g frame faces count fewer t le all.0,
+  clear_fewer_all g frame faces count fewer ts le all.1,
+)
 
 -- one lane more
-pub clear_more : (g : Globals) (frame : ℕ) (faces : List Face) (n q m k : ℕ) (ls : List LaneOf) (l : LaneOf) (p : PoolOf) → k < length ls → l ≡ get_or ls k l → m ≤ n → m ≤ q →
-    AllByRecursion (IsClearFor g frame faces (n - 1)) (tracks_in p (take k ls)) → IsClearFor g frame faces (q - 1) (track_in p l) →
+pub clear_more : (g : Globals) (frame : ℕ) (faces : List Face) (n q m k : ℕ) (ls : List LaneOf)
+    (l : LaneOf) (p : PoolOf) → k < length ls → l ≡ get_or ls k l → m ≤ n → m ≤ q →
+    AllByRecursion (IsClearFor g frame faces (n - 1)) (tracks_in p (take k ls)) →
+    IsClearFor g frame faces (q - 1) (track_in p l) →
     AllByRecursion (IsClearFor g frame faces (m - 1)) (tracks_in p (take (k + 1) ls))
 clear_more g frame faces n q m k ls l p less is by_n by_q all here =
-    let all' = clear_fewer_all g frame faces (n - 1) (m - 1) (tracks_in p (take k ls)) (omega arith) all
+    let all' =
+    clear_fewer_all g frame faces (n - 1) (m - 1) (tracks_in p (take k ls)) (omega arith) all
     in let here' = clear_fewer g frame faces (q - 1) (m - 1) (track_in p l) (omega arith) here
     in all_more (IsClearFor g frame faces (m - 1)) k ls l p less is all' here'
 
 -- before the next boundary
-pub calm_next : (g : Globals) (frame next count quantize : ℕ) (faces : List Face) → count < next ⊎ (count ≡ 0) →
-    ((frames : ℕ) → frames < next → is_boundary_behind g.sync_source quantize g.pulse frame faces frames ≡ false) → NoBoundaryWithin g frame faces count quantize
+pub calm_next : (g : Globals) (frame next count quantize : ℕ) (faces : List Face) →
+    count < next ⊎ (count ≡ 0) →
+    ((frames : ℕ) → frames < next →
+    is_boundary_behind g.sync_source quantize g.pulse frame faces frames ≡ false) →
+    NoBoundaryWithin g frame faces count quantize
 calm_next g frame next count quantize faces (inl less) before n some within = before n (omega arith)
 calm_next g frame next count quantize faces (inr none) before n some within = absurd (omega arith)

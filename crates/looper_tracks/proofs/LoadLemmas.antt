@@ -21,16 +21,19 @@ use Rattle.looper_tracks.proofs.LaneLemmas.{owned, turned, did_nothing}
 use Rattle.looper_tracks.proofs.SweepLemmas.{rest_on}
 
 -- the tracks of new lanes
-new_track : (chunks : ℕ) (s : StripSettings) (p : PoolOf) → track_in p (new_lane chunks s) ≡ first_track [] s
+new_track : (chunks : ℕ) (s : StripSettings) (p : PoolOf) →
+    track_in p (new_lane chunks s) ≡ first_track [] s
 unfolding seen
 new_track chunks s p = refl
 
-new_tracks : (chunks : ℕ) (ss : List StripSettings) (p : PoolOf) → tracks_in p (map (new_lane chunks) ss) ≡ first_tracks ss []
+new_tracks : (chunks : ℕ) (ss : List StripSettings) (p : PoolOf) →
+    tracks_in p (map (new_lane chunks) ss) ≡ first_tracks ss []
 new_tracks chunks [] p = refl
 new_tracks chunks (s ∷ ss) p = ap₂ (λ t ts. t ∷ ts) (new_track chunks s p) (new_tracks chunks ss p)
 
 -- new lanes own no chunks
-new_owns : (chunks : ℕ) (s : StripSettings) (p : PoolOf) → p.all ≤ chunks → Owns (new_lane chunks s).strip p
+new_owns : (chunks : ℕ) (s : StripSettings) (p : PoolOf) → p.all ≤ chunks →
+    Owns (new_lane chunks s).strip p
 new_owns chunks s p fits = record {
   tape = record {
     inside = λ i less. absurd (omega arith);
@@ -43,19 +46,26 @@ new_owns chunks s p fits = record {
   low = record { layers = tt; redo = tt; pin = tt };
 }
 
-new_own : (chunks : ℕ) (ss : List StripSettings) (p : PoolOf) → p.all ≤ chunks → AllByRecursion (OwnsLane p) (map (new_lane chunks) ss)
+new_own : (chunks : ℕ) (ss : List StripSettings) (p : PoolOf) → p.all ≤ chunks →
+    AllByRecursion (OwnsLane p) (map (new_lane chunks) ss)
 new_own chunks [] p fits = tt
-new_own chunks (s ∷ ss) p fits = (record { owns = new_owns chunks s p fits }, new_own chunks ss p fits)
+new_own chunks (s ∷ ss) p fits =
+    (record { owns = new_owns chunks s p fits }, new_own chunks ss p fits)
 
-new_beside : (chunks : ℕ) (l : LaneOf) (ss : List StripSettings) → AllByRecursion (LanesApart l) (map (new_lane chunks) ss)
+new_beside : (chunks : ℕ) (l : LaneOf) (ss : List StripSettings) →
+    AllByRecursion (LanesApart l) (map (new_lane chunks) ss)
 new_beside chunks l [] = tt
-new_beside chunks l (s ∷ ss) = (record { apart = record { tapes = λ i j less other same. absurd (omega arith) } }, new_beside chunks l ss)
+new_beside chunks l (s ∷ ss) = (
+  record { apart = record { tapes = λ i j less other same. absurd (omega arith) } },
+  new_beside chunks l ss,
+)
 
 new_apart : (chunks : ℕ) (ss : List StripSettings) → AreApart (map (new_lane chunks) ss)
 new_apart chunks [] = tt
 new_apart chunks (s ∷ ss) = (new_beside chunks (new_lane chunks s) ss, new_apart chunks ss)
 
-pub new_in : (chunks : ℕ) (ss : List StripSettings) (p : PoolOf) → p.all ≤ chunks → AreIn p (map (new_lane chunks) ss)
+pub new_in : (chunks : ℕ) (ss : List StripSettings) (p : PoolOf) → p.all ≤ chunks →
+    AreIn p (map (new_lane chunks) ss)
 new_in chunks ss p fits = record { own = new_own chunks ss p fits; apart = new_apart chunks ss }
 
 -- what the tapes of first tracks use
@@ -67,7 +77,8 @@ no_tapes : (ss : List StripSettings) → used (map tape_of (first_tracks ss []))
 no_tapes [] = refl
 no_tapes (s ∷ ss) = no_tapes ss
 
-pub fewer_lists : (ss : List StripSettings) (lists : List (List Sound)) → AreLists ss lists → length lists ≤ length ss
+pub fewer_lists : (ss : List StripSettings) (lists : List (List Sound)) → AreLists ss lists →
+    length lists ≤ length ss
 fewer_lists [] [] are = omega arith
 fewer_lists [] (list ∷ lists) are = absurd are
 fewer_lists (s ∷ ss) [] are = omega arith
@@ -76,7 +87,8 @@ fewer_lists (s ∷ ss) (list ∷ lists) are = let rest = fewer_lists ss lists ar
 used-cons : (n : ℕ) (ns : List ℕ) → used (n ∷ ns) ≡ chunks_of n + used ns
 used-cons n ns = sum_by-cons chunks_of n ns
 
-used_tapes : (ss : List StripSettings) (lists : List (List Sound)) → length lists ≤ length ss → used (map tape_of (first_tracks ss lists)) ≡ used (map length lists)
+used_tapes : (ss : List StripSettings) (lists : List (List Sound)) → length lists ≤ length ss →
+    used (map tape_of (first_tracks ss lists)) ≡ used (map length lists)
 used_tapes [] [] less = refl
 used_tapes [] (list ∷ lists) less = absurd (omega arith)
 used_tapes (s ∷ ss) [] less = no_tapes ss
@@ -86,13 +98,16 @@ used_tapes (s ∷ ss) (list ∷ lists) less =
     ∙ sym (used-cons (length list) (map length lists))
 
 -- one list more
-pub first_set : (ss : List StripSettings) (lists : List (List Sound)) (k : ℕ) (ds : List Sound) (d : StripSettings) → k < length lists → length lists ≤ length ss →
-    set (first_tracks ss (take k lists)) k (first_track (get_or lists k ds) (get_or ss k d)) ≡ first_tracks ss (take (suc k) lists)
+pub first_set : (ss : List StripSettings) (lists : List (List Sound)) (k : ℕ) (ds : List Sound)
+    (d : StripSettings) → k < length lists → length lists ≤ length ss →
+    set (first_tracks ss (take k lists)) k (first_track (get_or lists k ds) (get_or ss k d))
+    ≡ first_tracks ss (take (suc k) lists)
 first_set [] [] k ds d less fewer = absurd (omega arith)
 first_set [] (list ∷ lists) k ds d less fewer = absurd (omega arith)
 first_set (s ∷ ss) [] k ds d less fewer = absurd (omega arith)
 first_set (s ∷ ss) (list ∷ lists) zero ds d less fewer = refl
-first_set (s ∷ ss) (list ∷ lists) (suc k) ds d less fewer = ap (λ ts. first_track list s ∷ ts) (first_set ss lists k ds d (omega arith) (omega arith))
+first_set (s ∷ ss) (list ∷ lists) (suc k) ds d less fewer =
+    ap (λ ts. first_track list s ∷ ts) (first_set ss lists k ds d (omega arith) (omega arith))
 
 -- what the settings say of the list of this index
 pub record IsListOf (s : StripSettings) (list : List Sound) : Type 0 where
@@ -103,15 +118,19 @@ both_true : (a b : Bool) → (a && b) ≡ true → (a ≡ true) × (b ≡ true)
 both_true true b h = (refl, h)
 both_true false b h = let off : ⊥ = cc in absurd off
 
-pub list_at : (ss : List StripSettings) (lists : List (List Sound)) (k : ℕ) (ds : List Sound) (d : StripSettings) → are_strips ss ≡ true → AreLists ss lists → k < length lists →
+pub list_at : (ss : List StripSettings) (lists : List (List Sound)) (k : ℕ) (ds : List Sound)
+    (d : StripSettings) → are_strips ss ≡ true → AreLists ss lists → k < length lists →
     IsListOf (get_or ss k d) (get_or lists k ds)
 list_at [] [] k ds d valid are less = absurd (omega arith)
 list_at [] (list ∷ lists) k ds d valid are less = absurd are
 list_at (s ∷ ss) [] k ds d valid are less = absurd (omega arith)
-list_at (s ∷ ss) (list ∷ lists) zero ds d valid are less = record { valid = (both_true (is_strip s) (are_strips ss) valid).0; length_is = are.0 }
-list_at (s ∷ ss) (list ∷ lists) (suc k) ds d valid are less = list_at ss lists k ds d (both_true (is_strip s) (are_strips ss) valid).1 are.1 (omega arith)
+list_at (s ∷ ss) (list ∷ lists) zero ds d valid are less =
+    record { valid = (both_true (is_strip s) (are_strips ss) valid).0; length_is = are.0 }
+list_at (s ∷ ss) (list ∷ lists) (suc k) ds d valid are less =
+    list_at ss lists k ds d (both_true (is_strip s) (are_strips ss) valid).1 are.1 (omega arith)
 
-six_parts : (a b c d e f g : Bool) → (a && b && c && d && e && f && g) ≡ true → (a ≡ true) × (b ≡ true)
+six_parts : (a b c d e f g : Bool) → (a && b && c && d && e && f && g) ≡ true →
+    (a ≡ true) × (b ≡ true)
 six_parts a b c d e f g h =
     let one = both_true (a && b && c && d && e && f) g h
     in let two = both_true (a && b && c && d && e) f one.0
@@ -121,7 +140,8 @@ six_parts a b c d e f g h =
     in both_true a b five.0
 
 -- a strip of a list that isn't empty has a cycle of 1 to its length
-cycle_of : (length cycle : ℕ) → 1 ≤ length → is_cycle_of length cycle ≡ true → (1 ≤ cycle) × (cycle ≤ length)
+cycle_of : (length cycle : ℕ) → 1 ≤ length → is_cycle_of length cycle ≡ true →
+    (1 ≤ cycle) × (cycle ≤ length)
 cycle_of zero cycle some valid = absurd (omega arith)
 cycle_of (suc n) cycle some valid =
     let parts = both_true (nat_le 1 cycle) (nat_le cycle (suc n)) valid
@@ -129,9 +149,11 @@ cycle_of (suc n) cycle some valid =
 
 -- the list of this index needs no more than is left
 used_take : (lists : List (List Sound)) (k : ℕ) (ds : List Sound) → k < length lists →
-    used (map length (take k lists)) + chunks_of (length (get_or lists k ds)) ≤ used (map length lists)
+    used (map length (take k lists)) + chunks_of (length (get_or lists k ds))
+    ≤ used (map length lists)
 used_take [] k ds less = absurd (omega arith)
-used_take (list ∷ lists) zero ds less = let sum = used-cons (length list) (map length lists) in omega arith
+used_take (list ∷ lists) zero ds less = let sum = used-cons (length list) (map length lists)
+    in omega arith
 used_take (list ∷ lists) (suc k) ds less =
     let rest = used_take lists k ds (omega arith)
     in let sum = used-cons (length list) (map length lists)
@@ -139,27 +161,33 @@ used_take (list ∷ lists) (suc k) ds less =
     in omega arith
 
 -- the lane of an index behind those that were changed
-lane_of : {X : Type 0} (f : X → LaneOf) (ls : List LaneOf) (ss : List X) (k : ℕ) (d : LaneOf) (ds : X) → drop k ls ≡ drop k (map f ss) → k < length ss → length ls ≡ length ss →
+lane_of : {X : Type 0} (f : X → LaneOf) (ls : List LaneOf) (ss : List X) (k : ℕ) (d : LaneOf)
+    (ds : X) → drop k ls ≡ drop k (map f ss) → k < length ss → length ls ≡ length ss →
     get_or ls k d ≡ f (get_or ss k ds)
 lane_of f [] [] k d ds same less count = absurd (omega arith)
 lane_of f [] (s ∷ ss) k d ds same less count = absurd (omega arith)
 lane_of f (l ∷ ls) [] k d ds same less count = absurd (omega arith)
 lane_of f (l ∷ ls) (s ∷ ss) zero d ds same less count = ap (λ xs. get_or xs 0 l) same
-lane_of f (l ∷ ls) (s ∷ ss) (suc k) d ds same less count = lane_of f ls ss k d ds same (omega arith) (omega arith)
+lane_of f (l ∷ ls) (s ∷ ss) (suc k) d ds same less count =
+    lane_of f ls ss k d ds same (omega arith) (omega arith)
 
 -- so many lists were laid, and the lanes behind are new
-pub record Loading (ss : List StripSettings) (lists : List (List Sound)) (chunks all : ℕ) (ls : List LaneOf) (p : PoolOf) (k : ℕ) : Type 0 where
+pub record Loading (ss : List StripSettings) (lists : List (List Sound)) (chunks all : ℕ)
+    (ls : List LaneOf) (p : PoolOf) (k : ℕ) : Type 0 where
   pub tracks : tracks_in p ls ≡ first_tracks ss (take k lists)
   pub rest : drop k ls ≡ drop k (map (new_lane chunks) ss)
   pub inside : AreIn p ls
   pub sum : all_in p ls ≡ all
   pub count : length ls ≡ length ss
 
-pub loading_none : (ss : List StripSettings) (lists : List (List Sound)) (room chunks : ℕ) (ls : List LaneOf) (p : PoolOf) → ls ≡ map (new_lane room) ss → p.all ≤ room → free_in p ≡ chunks →
+pub loading_none : (ss : List StripSettings) (lists : List (List Sound)) (room chunks : ℕ)
+    (ls : List LaneOf) (p : PoolOf) → ls ≡ map (new_lane room) ss → p.all ≤ room →
+    free_in p ≡ chunks →
     Loading ss lists room chunks ls p 0
 loading_none ss lists room chunks ls p is fits all =
     let tracks : tracks_in p ls ≡ first_tracks ss [] = ap (tracks_in p) is ∙ new_tracks room ss p
-    in let none : used (map tape_of (tracks_in p ls)) ≡ 0 = ap (λ ts. used (map tape_of ts)) tracks ∙ no_tapes ss
+    in let none : used (map tape_of (tracks_in p ls)) ≡ 0 = ap (λ ts. used (map tape_of ts)) tracks
+    ∙ no_tapes ss
     in record {
       tracks = tracks;
       rest = is;
@@ -169,14 +197,18 @@ loading_none ss lists room chunks ls p is fits all =
     }
 
 -- the lane of this index may begin with its list
-pub may_load : (ss : List StripSettings) (lists : List (List Sound)) (room chunks : ℕ) (ls : List LaneOf) (p : PoolOf) (k : ℕ) (d : LaneOf) (ds : List Sound) (s : StripSettings) →
-    are_strips ss ≡ true → AreLists ss lists → used (map length lists) ≤ chunks → k < length lists → Loading ss lists room chunks ls p k →
+pub may_load : (ss : List StripSettings) (lists : List (List Sound)) (room chunks : ℕ)
+    (ls : List LaneOf) (p : PoolOf) (k : ℕ) (d : LaneOf) (ds : List Sound) (s : StripSettings) →
+    are_strips ss ≡ true → AreLists ss lists → used (map length lists) ≤ chunks → k < length lists →
+    Loading ss lists room chunks ls p k →
     MayLoad (get_or ss k s) (get_or lists k ds) room (get_or ls k d) p
 may_load ss lists room chunks ls p k d ds s valid are fits less h =
     let fewer = fewer_lists ss lists are
     in let less_ss : k < length ss = omega arith
-    in let long : length (take k lists) ≤ length ss = (let taken = length-take k lists in omega arith)
-    in let used_now : used (map tape_of (tracks_in p ls)) ≡ used (map length (take k lists)) = ap (λ ts. used (map tape_of ts)) h.tracks ∙ used_tapes ss (take k lists) long
+    in let long : length (take k lists) ≤ length ss =
+    (let taken = length-take k lists in omega arith)
+    in let used_now : used (map tape_of (tracks_in p ls)) ≡ used (map length (take k lists)) =
+    ap (λ ts. used (map tape_of ts)) h.tracks ∙ used_tapes ss (take k lists) long
     in let needs = used_take lists k ds less
     in let all = h.sum
     in record {
@@ -188,25 +220,36 @@ may_load ss lists room chunks ls p k d ds s valid are fits less h =
     }
 
 -- one list more was laid
-pub loading_more : (ss : List StripSettings) (lists : List (List Sound)) (room chunks : ℕ) (ls : List LaneOf) (p p' : PoolOf) (k : ℕ) (d l' : LaneOf) (ds : List Sound) (s : StripSettings) →
-    AreLists ss lists → k < length lists → Loading ss lists room chunks ls p k → DidLane (λ reach t. first_track (get_or lists k ds) (get_or ss k s)) (get_or ls k d) l' p p' →
+pub loading_more : (ss : List StripSettings) (lists : List (List Sound)) (room chunks : ℕ)
+    (ls : List LaneOf) (p p' : PoolOf) (k : ℕ) (d l' : LaneOf) (ds : List Sound)
+    (s : StripSettings) →
+    AreLists ss lists → k < length lists → Loading ss lists room chunks ls p k →
+    DidLane (λ reach t. first_track (get_or lists k ds) (get_or ss k s)) (get_or ls k d) l' p
+    p' →
     Loading ss lists room chunks (set ls k l') p' (k + 1)
 loading_more ss lists room chunks ls p p' k d l' ds s are less h did =
     let fewer = fewer_lists ss lists are
     in let less_ls : k < length ls = (let same = h.count in omega arith)
-    in let now = turned _ ls k (get_or ls k d) l' p p' less_ls (get_or_default ls k d (get_or ls k d) less_ls) h.inside did
+    in let now =
+    turned _ ls k (get_or ls k d) l' p p' less_ls
+    (get_or_default ls k d (get_or ls k d) less_ls) h.inside did
     in let at : suc k ≡ k + 1 = omega arith
     in record {
       tracks =
-          now.tracks ∙ ap (λ ts. set ts k (first_track (get_or lists k ds) (get_or ss k s))) h.tracks ∙ first_set ss lists k ds s less fewer
+          now.tracks
+          ∙ ap (λ ts. set ts k (first_track (get_or lists k ds) (get_or ss k s))) h.tracks
+          ∙ first_set ss lists k ds s less fewer
           ∙ ap (λ n. first_tracks ss (take n lists)) at;
-      rest = drop-set-lt (k + 1) ls k l' (omega arith) ∙ rest_on ls (map (new_lane room) ss) k h.rest;
+      rest = drop-set-lt (k + 1) ls k l' (omega arith)
+          ∙ rest_on ls (map (new_lane room) ss) k h.rest;
       inside = now.inside;
       sum = now.chunks ∙ h.sum;
       count = simp length-set h.count;
     }
 
-pub loading_all : (ss : List StripSettings) (lists : List (List Sound)) (room chunks : ℕ) (ls : List LaneOf) (p : PoolOf) (k : ℕ) → length lists ≤ k → Loading ss lists room chunks ls p k → HaveLoaded ss lists chunks ls p
+pub loading_all : (ss : List StripSettings) (lists : List (List Sound)) (room chunks : ℕ)
+    (ls : List LaneOf) (p : PoolOf) (k : ℕ) → length lists ≤ k →
+    Loading ss lists room chunks ls p k → HaveLoaded ss lists chunks ls p
 loading_all ss lists room chunks ls p k past h = record {
   tracks = h.tracks ∙ ap (first_tracks ss) (take_all k lists past);
   inside = h.inside;
@@ -215,42 +258,62 @@ loading_all ss lists room chunks ls p k past h = record {
 }
 
 -- a new lane that begins with its list is its first track
-loaded_track : (chunks : ℕ) (s : StripSettings) (list : List Sound) (reach : ℕ) (p : PoolOf) → 1 ≤ length list → on_loop (loads list s.cycle) reach (track_in p (new_lane chunks s)) ≡ first_track list s
+loaded_track : (chunks : ℕ) (s : StripSettings) (list : List Sound) (reach : ℕ) (p : PoolOf) →
+    1 ≤ length list →
+    on_loop (loads list s.cycle) reach (track_in p (new_lane chunks s)) ≡ first_track list s
 unfolding seen
 loaded_track chunks s [] reach p some = absurd (omega arith)
 loaded_track chunks s (x ∷ xs) reach p some = refl
 
-pub lane_begun : (chunks : ℕ) (s : StripSettings) (list : List Sound) (l l' : LaneOf) (p p' : PoolOf) → l ≡ new_lane chunks s → 1 ≤ length list → DidLane (on_loop (loads list s.cycle)) l l' p p' →
+pub lane_begun : (chunks : ℕ) (s : StripSettings) (list : List Sound) (l l' : LaneOf)
+    (p p' : PoolOf) → l ≡ new_lane chunks s → 1 ≤ length list →
+    DidLane (on_loop (loads list s.cycle)) l l' p p' →
     DidLane (λ reach t. first_track list s) l l' p p'
 lane_begun chunks s list l l' p p' is some did = record {
-  track = did.track ∙ ap (λ u. on_loop (loads list s.cycle) (reach_in l.strip p) (track_in p u)) is ∙ loaded_track chunks s list (reach_in l.strip p) p some;
+  track = did.track ∙ ap (λ u. on_loop (loads list s.cycle) (reach_in l.strip p) (track_in p u)) is
+      ∙ loaded_track chunks s list (reach_in l.strip p) p some;
   owns = did.owns;
   reach = did.reach;
   others = did.others;
 }
 
-pub lane_without : (chunks : ℕ) (s : StripSettings) (list : List Sound) (l : LaneOf) (p : PoolOf) → MayLoad s list chunks l p → length list ≡ 0 → DidLane (λ reach t. first_track list s) l l p p
+pub lane_without : (chunks : ℕ) (s : StripSettings) (list : List Sound) (l : LaneOf) (p : PoolOf) →
+    MayLoad s list chunks l p → length list ≡ 0 → DidLane (λ reach t. first_track list s) l l p p
 lane_without chunks s (x ∷ xs) l p may none = absurd (omega arith)
-lane_without chunks s [] l p may none = did_nothing (λ reach t. first_track [] s) l p may.owns (sym (ap (track_in p) may.lane ∙ new_track chunks s p))
+lane_without chunks s [] l p may none =
+    did_nothing (λ reach t. first_track [] s) l p may.owns
+    (sym (ap (track_in p) may.lane ∙ new_track chunks s p))
 
 -- what a strip asks of a list
-pub cycles : (s : StripSettings) (list : List Sound) → is_strip s ≡ true → s.length ≡ length list → 1 ≤ length list → (1 ≤ s.cycle) × (s.cycle ≤ length list)
+pub cycles : (s : StripSettings) (list : List Sound) → is_strip s ≡ true → s.length ≡ length list →
+    1 ≤ length list → (1 ≤ s.cycle) × (s.cycle ≤ length list)
 cycles s list valid long some =
-    let all = six_parts (nat_le s.length max_list_frames) (is_cycle_of s.length s.cycle) _ _ _ _ _ valid
+    let all =
+    six_parts (nat_le s.length max_list_frames) (is_cycle_of s.length s.cycle) _ _ _ _ _ valid
     in let cycle = cycle_of s.length s.cycle (omega arith) all.1
     in (cycle.0, omega (arith, cycle.1))
 
-pub short : (s : StripSettings) (list : List Sound) → is_strip s ≡ true → s.length ≡ length list → length list ≤ max_list_frames
+pub short : (s : StripSettings) (list : List Sound) → is_strip s ≡ true → s.length ≡ length list →
+    length list ≤ max_list_frames
 short s list valid long =
-    let all = six_parts (nat_le s.length max_list_frames) (is_cycle_of s.length s.cycle) _ _ _ _ _ valid
+    let all =
+    six_parts (nat_le s.length max_list_frames) (is_cycle_of s.length s.cycle) _ _ _ _ _ valid
     in let less : s.length ≤ max_list_frames = search (arith, all.0)
     in omega arith
 
 -- the chunks of one list more
-pub used_more : (lists : List (List Sound)) (k : ℕ) (ds : List Sound) → k < length lists → used (map length (take (k + 1) lists)) ≡ used (map length (take k lists)) + chunks_of (length (get_or lists k ds))
-used_more lists k ds less = let at : suc k ≡ k + 1 = omega arith in subst (λ n. used (map length (take n lists)) ≡ used (map length (take k lists)) + chunks_of (length (get_or lists k ds))) at (used_next lists k ds less)
+pub used_more : (lists : List (List Sound)) (k : ℕ) (ds : List Sound) → k < length lists →
+    used (map length (take (k + 1) lists))
+    ≡ used (map length (take k lists)) + chunks_of (length (get_or lists k ds))
+used_more lists k ds less = let at : suc k ≡ k + 1 = omega arith
+    in subst
+    (λ n. used (map length (take n lists))
+    ≡ used (map length (take k lists)) + chunks_of (length (get_or lists k ds))) at
+    (used_next lists k ds less)
   where
-    used_next : (lists : List (List Sound)) (k : ℕ) (ds : List Sound) → k < length lists → used (map length (take (suc k) lists)) ≡ used (map length (take k lists)) + chunks_of (length (get_or lists k ds))
+    used_next : (lists : List (List Sound)) (k : ℕ) (ds : List Sound) → k < length lists →
+        used (map length (take (suc k) lists))
+        ≡ used (map length (take k lists)) + chunks_of (length (get_or lists k ds))
     used_next [] k ds less = absurd (omega arith)
     used_next (list ∷ lists) zero ds less = let sum = used-cons (length list) [] in omega arith
     used_next (list ∷ lists) (suc k) ds less =
@@ -260,17 +323,26 @@ used_more lists k ds less = let at : suc k ≡ k + 1 = omega arith in subst (λ 
         in omega arith
 
 -- the same of a list that is shown
-pub may_as : (lists : List (List Sound)) (list shown : List Sound) (k : ℕ) (s : StripSettings) (room : ℕ) (l : LaneOf) {p : PoolOf} → list ≡ get_or lists k list → shown ≡ list → MayLoad s (get_or lists k list) room l p → MayLoad s shown room l p
-may_as lists list shown k s room l {p} is same may = subst (λ zs. MayLoad s zs room l p) (sym is ∙ sym same) may
+pub may_as : (lists : List (List Sound)) (list shown : List Sound) (k : ℕ) (s : StripSettings)
+    (room : ℕ) (l : LaneOf) {p : PoolOf} → list ≡ get_or lists k list → shown ≡ list →
+    MayLoad s (get_or lists k list) room l p → MayLoad s shown room l p
+may_as lists list shown k s room l {p} is same may =
+    subst (λ zs. MayLoad s zs room l p) (sym is ∙ sym same) may
 
-pub did_as : (lists : List (List Sound)) (list shown : List Sound) (k : ℕ) (s : StripSettings) (l l' : LaneOf) (p : PoolOf) {p' : PoolOf} → list ≡ get_or lists k list → shown ≡ list →
-    DidLane (λ reach t. first_track shown s) l l' p p' → DidLane (λ reach t. first_track (get_or lists k list) s) l l' p p'
-did_as lists list shown k s l l' p {p'} is same did = subst (λ zs. DidLane (λ reach t. first_track zs s) l l' p p') (same ∙ is) did
+pub did_as : (lists : List (List Sound)) (list shown : List Sound) (k : ℕ) (s : StripSettings)
+    (l l' : LaneOf) (p : PoolOf) {p' : PoolOf} → list ≡ get_or lists k list → shown ≡ list →
+    DidLane (λ reach t. first_track shown s) l l' p p' →
+    DidLane (λ reach t. first_track (get_or lists k list) s) l l' p p'
+did_as lists list shown k s l l' p {p'} is same did =
+    subst (λ zs. DidLane (λ reach t. first_track zs s) l l' p p') (same ∙ is) did
 
-pub short_at : (ss : List StripSettings) (lists : List (List Sound)) (list : List Sound) (k n : ℕ) → are_strips ss ≡ true → AreLists ss lists → k < length lists → list ≡ get_or lists k list → n ≡ length list → n ≤ max_list_frames
+pub short_at : (ss : List StripSettings) (lists : List (List Sound)) (list : List Sound) (k n : ℕ) →
+    are_strips ss ≡ true → AreLists ss lists → k < length lists → list ≡ get_or lists k list →
+    n ≡ length list → n ≤ max_list_frames
 short_at ss lists list k n valid are less is long =
     let here = list_at ss lists k list default_strip valid are less
-    in let within = short (get_or ss k default_strip) (get_or lists k list) here.valid here.length_is
+    in let within =
+    short (get_or ss k default_strip) (get_or lists k list) here.valid here.length_is
     in let same : length list ≡ length (get_or lists k list) = ap length is
     in omega arith
 

@@ -12,29 +12,44 @@ use Rattle.looper_rules.specs.GainSpans.{added, added_all}
 use Rattle.looper_tracks.proofs.LaneLemmas.{turned}
 use Rattle.looper_tracks.proofs.SweepLemmas.{Sweeping, sweeping_more, sweeping_none}
 
-pub record Summing (step : ℕ) (xs : List Sound) (ls0 : List LaneOf) (p0 : PoolOf) (sums0 : List Sound) (ls : List LaneOf) (p : PoolOf) (sums : List Sound) (k : ℕ) : Type 0 where
+pub record Summing (step : ℕ) (xs : List Sound) (ls0 : List LaneOf) (p0 : PoolOf)
+    (sums0 : List Sound) (ls : List LaneOf) (p : PoolOf) (sums : List Sound) (k : ℕ) : Type 0 where
   pub sweep : Sweeping (track_over step xs) ls0 p0 ls p k
-  pub whole : added_all sums (map given_of (all_over step xs (free_in p) (drop k (tracks_in p ls)))) ≡ added_all sums0 (map given_of (all_over step xs (free_in p0) (tracks_in p0 ls0)))
+  pub whole : added_all sums (map given_of (all_over step xs (free_in p) (drop k (tracks_in p ls))))
+      ≡ added_all sums0 (map given_of (all_over step xs (free_in p0) (tracks_in p0 ls0)))
   pub long : length sums ≡ length sums0
 
 sum_turn :
-    (step : ℕ) (xs : List Sound) (ts : List Track) (k free free' : ℕ) (t t' : Track) (sums sums' whole : List Sound) → k < length ts → t ≡ get_or ts k t →
-    t' ≡ track_over step xs (reach_of free t) t → free' + chunks_of (tape_of t') ≡ reach_of free t → sums' ≡ added sums (given_over step xs (reach_of free t) t) →
+    (step : ℕ) (xs : List Sound) (ts : List Track) (k free free' : ℕ) (t t' : Track)
+    (sums sums' whole : List Sound) → k < length ts → t ≡ get_or ts k t →
+    t' ≡ track_over step xs (reach_of free t) t → free' + chunks_of (tape_of t') ≡ reach_of free t →
+    sums' ≡ added sums (given_over step xs (reach_of free t) t) →
     added_all sums (map given_of (all_over step xs free (drop k ts))) ≡ whole →
     added_all sums' (map given_of (all_over step xs free' (drop (k + 1) (set ts k t')))) ≡ whole
 sum_turn step xs ts k free free' t t' sums sums' whole less here is reach more so_far =
     let left : free' ≡ reach_of free t - chunks_of (tape_of t') = omega arith
-    in let opened : drop k ts ≡ t ∷ drop (k + 1) ts = drop_more ts k t less ∙ ap (λ u. u ∷ drop (k + 1) ts) (sym here)
-    in let same : drop (k + 1) (set ts k t') ≡ drop (k + 1) ts = drop-set-lt (k + 1) ts k t' (omega arith)
-    in let now : added_all sums (map given_of (all_over step xs free (drop k ts))) ≡ added_all sums' (map given_of (all_over step xs free' (drop (k + 1) ts))) =
+    in let opened : drop k ts ≡ t ∷ drop (k + 1) ts = drop_more ts k t less
+    ∙ ap (λ u. u ∷ drop (k + 1) ts) (sym here)
+    in let same : drop (k + 1) (set ts k t') ≡ drop (k + 1) ts =
+    drop-set-lt (k + 1) ts k t' (omega arith)
+    in let now : added_all sums (map given_of (all_over step xs free (drop k ts)))
+    ≡ added_all sums' (map given_of (all_over step xs free' (drop (k + 1) ts))) =
     ap (λ us. added_all sums (map given_of (all_over step xs free us))) opened
-    ∙ ap (λ u. added_all (added sums (given_over step xs (reach_of free t) t)) (map given_of (all_over step xs (reach_of free t - chunks_of (tape_of u)) (drop (k + 1) ts)))) (sym is)
-    ∙ ap₂ (λ s n. added_all s (map given_of (all_over step xs n (drop (k + 1) ts)))) (sym more) (sym left)
+    ∙ ap (λ u. added_all (added sums (given_over step xs (reach_of free t) t))
+    (map given_of
+    (all_over step xs (reach_of free t - chunks_of (tape_of u)) (drop (k + 1) ts)))) (sym is)
+    ∙ ap₂ (λ s n. added_all s (map given_of (all_over step xs n (drop (k + 1) ts)))) (sym more)
+    (sym left)
     in rw same (sym now ∙ so_far)
 
 pub summing_more :
-    (step : ℕ) (xs : List Sound) (ls0 : List LaneOf) (p0 : PoolOf) (sums0 : List Sound) (ls : List LaneOf) (p : PoolOf) (sums : List Sound) (k : ℕ) (l l' : LaneOf) (p' : PoolOf) (sums' : List Sound) →
-    Summing step xs ls0 p0 sums0 ls p sums k → k < length ls0 → l ≡ get_or ls k l → DidLane (track_over step xs) l l' p p' → sums' ≡ added sums (given_over step xs (reach_in l.strip p) (track_in p l)) → length sums' ≡ length sums →
+    (step : ℕ) (xs : List Sound) (ls0 : List LaneOf) (p0 : PoolOf) (sums0 : List Sound)
+    (ls : List LaneOf) (p : PoolOf) (sums : List Sound) (k : ℕ) (l l' : LaneOf) (p' : PoolOf)
+    (sums' : List Sound) →
+    Summing step xs ls0 p0 sums0 ls p sums k → k < length ls0 → l ≡ get_or ls k l →
+    DidLane (track_over step xs) l l' p p' →
+    sums' ≡ added sums (given_over step xs (reach_in l.strip p) (track_in p l)) →
+    length sums' ≡ length sums →
     Summing step xs ls0 p0 sums0 (set ls k l') p' sums' (k + 1)
 summing_more step xs ls0 p0 sums0 ls p sums k l l' p' sums' h within is did more long =
     let less : k < length ls = (let same = h.sweep.count in omega arith)
@@ -43,25 +58,44 @@ summing_more step xs ls0 p0 sums0 ls p sums k l l' p' sums' h within is did more
     in let t' : Track = track_over step xs (reach_in l.strip p) (track_in p l)
     in record {
       sweep = sweeping_more (track_over step xs) ls0 p0 ls p k l l' p' h.sweep within is did;
-      whole = subst (λ ts. added_all sums' (map given_of (all_over step xs (free_in p') (drop (k + 1) ts))) ≡ added_all sums0 (map given_of (all_over step xs (free_in p0) (tracks_in p0 ls0)))) (sym now.tracks)
-          (sum_turn step xs (tracks_in p ls) k (free_in p) (free_in p') (track_in p l) t' sums sums' _ fits now.here refl now.reach more h.whole);
+      whole =
+          subst
+          (λ ts. added_all sums' (map given_of (all_over step xs (free_in p') (drop (k + 1) ts)))
+          ≡ added_all sums0 (map given_of (all_over step xs (free_in p0) (tracks_in p0 ls0))))
+          (sym now.tracks)
+          (sum_turn step xs (tracks_in p ls) k (free_in p) (free_in p') (track_in p l) t' sums sums'
+          _ fits now.here refl now.reach more h.whole);
       long = long ∙ h.long;
     }
 
 pub summing_at :
-    (step : ℕ) (xs : List Sound) (ls0 : List LaneOf) (p0 : PoolOf) (sums0 : List Sound) (ls : List LaneOf) (p : PoolOf) (sums : List Sound) (k : ℕ) (d l' : LaneOf) (p' : PoolOf) (sums' : List Sound) →
-    Summing step xs ls0 p0 sums0 ls p sums k → k < length ls0 → DidLane (track_over step xs) (get_or ls k d) l' p p' → sums' ≡ added sums (given_over step xs (reach_in (get_or ls k d).strip p) (track_in p (get_or ls k d))) → length sums' ≡ length sums →
+    (step : ℕ) (xs : List Sound) (ls0 : List LaneOf) (p0 : PoolOf) (sums0 : List Sound)
+    (ls : List LaneOf) (p : PoolOf) (sums : List Sound) (k : ℕ) (d l' : LaneOf) (p' : PoolOf)
+    (sums' : List Sound) →
+    Summing step xs ls0 p0 sums0 ls p sums k → k < length ls0 →
+    DidLane (track_over step xs) (get_or ls k d) l' p p' →
+    sums'
+    ≡ added sums
+    (given_over step xs (reach_in (get_or ls k d).strip p) (track_in p (get_or ls k d))) →
+    length sums' ≡ length sums →
     Summing step xs ls0 p0 sums0 (set ls k l') p' sums' (k + 1)
 summing_at step xs ls0 p0 sums0 ls p sums k d l' p' sums' h within did more long =
     let less : k < length ls = (let same = h.sweep.count in omega arith)
-    in summing_more step xs ls0 p0 sums0 ls p sums k (get_or ls k d) l' p' sums' h within (get_or_default ls k d (get_or ls k d) less) did more long
+    in summing_more step xs ls0 p0 sums0 ls p sums k (get_or ls k d) l' p' sums' h within
+    (get_or_default ls k d (get_or ls k d) less) did more long
 
-pub summing_none : (step : ℕ) (xs : List Sound) (ls : List LaneOf) (p : PoolOf) (sums : List Sound) → AreIn p ls → Summing step xs ls p sums ls p sums 0
-summing_none step xs ls p sums inside = record { sweep = sweeping_none (track_over step xs) ls p inside; whole = refl; long = refl }
+pub summing_none : (step : ℕ) (xs : List Sound) (ls : List LaneOf) (p : PoolOf)
+    (sums : List Sound) → AreIn p ls → Summing step xs ls p sums ls p sums 0
+summing_none step xs ls p sums inside =
+    record { sweep = sweeping_none (track_over step xs) ls p inside; whole = refl; long = refl }
 
-pub summing_all : (step : ℕ) (xs : List Sound) (ls0 : List LaneOf) (p0 : PoolOf) (sums0 : List Sound) (ls : List LaneOf) (p : PoolOf) (sums : List Sound) (k : ℕ) → Summing step xs ls0 p0 sums0 ls p sums k → length ls ≤ k →
+pub summing_all : (step : ℕ) (xs : List Sound) (ls0 : List LaneOf) (p0 : PoolOf)
+    (sums0 : List Sound) (ls : List LaneOf) (p : PoolOf) (sums : List Sound) (k : ℕ) →
+    Summing step xs ls0 p0 sums0 ls p sums k → length ls ≤ k →
     sums ≡ added_all sums0 (map given_of (all_over step xs (free_in p0) (tracks_in p0 ls0)))
 summing_all step xs ls0 p0 sums0 ls p sums k h all =
     let fits : length (tracks_in p ls) ≤ k = simp length-map all
-    in let none : added_all sums (map given_of (all_over step xs (free_in p) (drop k (tracks_in p ls)))) ≡ sums = rw (drop_all k (tracks_in p ls) fits) refl
+    in let none : added_all sums
+    (map given_of (all_over step xs (free_in p) (drop k (tracks_in p ls)))) ≡ sums =
+    rw (drop_all k (tracks_in p ls) fits) refl
     in sym none ∙ h.whole

@@ -1,4 +1,5 @@
--- How all loops begin: each lane with no list, over a pool of which every chunk is free, and then each list on its tape.
+-- How all loops begin: each lane with no list, over a pool of which every chunk is free, and then
+-- each list on its tape.
 -- "The run" in docs/rules.md.
 use Rattle.std.specs.Prelude.{◌≡◌, ◌≤◌, ℕ, true, List, [], length, None}
 use Rattle.sl_base.specs.Sounds.{Sound}
@@ -23,7 +24,8 @@ new_lane chunks s =
     }
 
 -- a new lane may begin with this list, as its settings say, and there are chunks for it
-pub record MayLoad (s : StripSettings) (list : List Sound) (all : ℕ) (l : LaneOf) (p : PoolOf) : Type 0 where
+pub record MayLoad (s : StripSettings) (list : List Sound) (all : ℕ) (l : LaneOf)
+    (p : PoolOf) : Type 0 where
   pub lane : l ≡ new_lane all s
   pub owns : Owns l.strip p
   pub valid : is_strip s ≡ true
@@ -31,7 +33,8 @@ pub record MayLoad (s : StripSettings) (list : List Sound) (all : ℕ) (l : Lane
   pub room : chunks_of (length list) ≤ free_in p
 
 -- these lists stand on the lanes, over a pool of so many chunks
-pub record HaveLoaded (strips : List StripSettings) (lists : List (List Sound)) (all : ℕ) (ls : List LaneOf) (p : PoolOf) : Type 0 where
+pub record HaveLoaded (strips : List StripSettings) (lists : List (List Sound)) (all : ℕ)
+    (ls : List LaneOf) (p : PoolOf) : Type 0 where
   pub tracks : tracks_in p ls ≡ first_tracks strips lists
   pub inside : AreIn p ls
   pub chunks : all_in p ls ≡ all

@@ -1,6 +1,7 @@
--- A lane is a strip with its gain and, while a save pins it, who asked for that save: with the pool it is a track.
--- The lanes of a looper stand over one pool, and no two of them have a chunk in common. A call on one lane changes its
--- track and leaves every other as it was, and free chunks and those of all lanes are together as many as before.
+-- A lane is a strip with its gain and, while a save pins it, who asked for that save: with the pool
+-- it is a track. The lanes of a looper stand over one pool, and no two of them have a chunk in
+-- common. A call on one lane changes its track and leaves every other as it was, and free chunks
+-- and those of all lanes are together as many as before.
 -- "The looper" in docs/rules.md.
 use Rattle.std.specs.Prelude.{◌≡◌, ℕ, ◌+◌, ⊤, List, [], ◌∷◌, map, length, Option}
 use Rattle.std.specs.List.{AllByRecursion}
@@ -56,7 +57,8 @@ abbrev pub all_in : PoolOf → List LaneOf → ℕ
 all_in p ls = free_in p + used (map tape_of (tracks_in p ls))
 
 -- calls did this to all tracks, where so many chunks were free
-pub record DidAll (act : ℕ → List Track → List Track) (ls ls' : List LaneOf) (p p' : PoolOf) : Type 0 where
+pub record DidAll (act : ℕ → List Track → List Track) (ls ls' : List LaneOf) (p p' : PoolOf) : Type
+    0 where
   pub tracks : tracks_in p' ls' ≡ act (free_in p) (tracks_in p ls)
   pub inside : AreIn p' ls'
   pub chunks : all_in p' ls' ≡ all_in p ls

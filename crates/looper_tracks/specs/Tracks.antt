@@ -1,4 +1,5 @@
--- All tracks over one pool, and how many chunks it has. Calls that do something to some tracks leave the chunks as many.
+-- All tracks over one pool, and how many chunks it has. Calls that do something to some tracks
+-- leave the chunks as many.
 -- "The looper" and "Room" in docs/rules.md.
 use Rattle.std.specs.Prelude.{◌≡◌, ℕ, ⊤, false, List, [], length, Option, Some, None, slice_get}
 use Rattle.sl_base.specs.Sounds.{Sound}

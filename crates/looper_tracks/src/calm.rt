@@ -34,7 +34,8 @@ fn source_keeps_time(faces: &[Face], source: i32) -> bool
     }
 }
 
-/// How many frames it is to the next boundary for a loop with this quantize, at most `most`, and 1 at least.
+/// How many frames it is to the next boundary for a loop with this quantize, at most `most`, and 1
+/// at least.
 fn frames_to_boundary(faces: &[Face], globals: &Globals, quantize: u8, frame: u64, most: u32) -> u32
     requires some { 1 ≤ most }
     ensures some { 1 ≤ result }
@@ -64,7 +65,8 @@ fn calm_of(lane: &Lane, faces: &[Face], globals: &Globals, frame: u64, most: u32
     frames_to_boundary(faces, globals, lane.quantize(), frame, most)
 }
 
-/// How many of so many frames pass before a verb that waits on one of them may act, these being their faces.
+/// How many of so many frames pass before a verb that waits on one of them may act, these being
+/// their faces.
 pub(crate) fn calm_frames(
     lanes: &[Lane],
     faces: &[Face],

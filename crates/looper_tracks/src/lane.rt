@@ -65,7 +65,8 @@ impl Lane {
         }
     }
 
-    /// A new lane begins with this list, of 1 to 16777216 frames, and this cycle in frames. There are chunks for all frames.
+    /// A new lane begins with this list, of 1 to 16777216 frames, and this cycle in frames. There
+    /// are chunks for all frames.
     pub(crate) fn load(&mut self, pool: &mut Pool, list: &[Frame], cycle: u32)
         requires owns { Owns self.old.strip pool.old }
         requires new { IsNew self.old.strip.loop }
@@ -178,7 +179,8 @@ impl Lane {
         }
     }
 
-    /// Some frames: what is heard of the loop is added to the sums, scaled by the gain, which moves by at most `step`.
+    /// Some frames: what is heard of the loop is added to the sums, scaled by the gain, which moves
+    /// by at most `step`.
     pub(crate) fn play(
         &mut self,
         pool: &mut Pool,

@@ -77,8 +77,8 @@ fn load_all(
 }
 
 impl Tracks {
-    /// The tracks that begin with these lists, each as long as its strip says, over a pool of so many chunks, which are enough
-    /// for all lists. Only this call takes memory.
+    /// The tracks that begin with these lists, each as long as its strip says, over a pool of so
+    /// many chunks, which are enough for all lists. Only this call takes memory.
     pub fn new(
         alloc: Global,
         strips: &[StripSettings],

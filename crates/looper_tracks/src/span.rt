@@ -42,7 +42,8 @@ pub(crate) fn play_all(
     }
 }
 
-/// For how many of these frames, from the first on, those behind the first are quiet for every lane.
+/// For how many of these frames, from the first on, those behind the first are quiet for every
+/// lane.
 pub(crate) fn quiet_frames(lanes: &[Lane], input: &[Frame]) -> usize
     requires some { 1 ≤ length input.now }
     ensures some { 1 ≤ result }

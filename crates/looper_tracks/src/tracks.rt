@@ -64,7 +64,8 @@ impl Tracks {
         long_press: u32,
     )
         ensures { DidTracks
-            (at_target target selected (on_loop (gives press verb frame long_press))) self.old self.new }
+            (at_target target selected (on_loop (gives press verb frame long_press)))
+            self.old self.new }
     {
         give_to(
             &mut self.lanes,
@@ -111,7 +112,8 @@ impl Tracks {
         take_faces(&self.lanes, faces);
     }
 
-    /// Some frames, one track after another. What is heard of each is added to the sums, which begin with nothing.
+    /// Some frames, one track after another. What is heard of each is added to the sums, which
+    /// begin with nothing.
     pub fn play(&mut self, input: &[Frame], heard: &mut [Frame], sums: &mut [Sum], step: u16)
         requires few { length self.old.tracks ≤ 16 }
         requires step { step ≤ 1000 }
@@ -126,7 +128,8 @@ impl Tracks {
         play_all(&mut self.lanes, &mut self.pool, input, heard, sums, step);
     }
 
-    /// For how many of these frames, from the first on, those behind the first are quiet for every loop.
+    /// For how many of these frames, from the first on, those behind the first are quiet for every
+    /// loop.
     pub fn quiet_frames(&self, input: &[Frame]) -> usize
         requires some { 1 ≤ length input.now }
         ensures some { 1 ≤ result }
@@ -173,7 +176,8 @@ impl Tracks {
         release_all(&mut self.lanes, &self.pool);
     }
 
-    /// How many of so many frames pass before a verb that waits on one of them may act, these being their faces.
+    /// How many of so many frames pass before a verb that waits on one of them may act, these being
+    /// their faces.
     pub fn calm_frames(&self, faces: &[Face], globals: &Globals, frame: u64, most: u32) -> u32
         requires some { 1 ≤ most }
         ensures some { 1 ≤ result }

@@ -5,4 +5,6 @@ use Rattle.looper_lanes.proofs.mix.play_span.Goals as goal
 
 pub returns : goal.returns
 returns c =
-    span_done _ _ _ _ _ _ _ _ _ _ (c.clear_span.ensures.value ∙ ap (λ n. replicate n silence) (sym c.requires.sums)) c.play.ensures.tracks c.play.ensures.sums c.add_span.ensures.sums c.add_span.ensures.gain c.close_span.ensures
+    span_done _ _ _ _ _ _ _ _ _ _ (c.clear_span.ensures.value
+    ∙ ap (λ n. replicate n silence) (sym c.requires.sums)) c.play.ensures.tracks
+    c.play.ensures.sums c.add_span.ensures.sums c.add_span.ensures.gain c.close_span.ensures

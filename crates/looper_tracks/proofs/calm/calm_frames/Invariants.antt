@@ -7,4 +7,6 @@ use Rattle.looper_tracks.proofs.calm.calm_frames.Given as goal
 
 abbrev pub invariant-loop-k : goal.invariant-loop-k
 invariant-loop-k l =
-    ((p : PoolOf) → AllByRecursion (IsClearFor l.globals l.frame l.faces (l.frames - 1)) (tracks_in p (take l.k l.lanes))) × (1 ≤ l.frames) × (l.frames ≤ l.most)
+    ((p : PoolOf) →
+    AllByRecursion (IsClearFor l.globals l.frame l.faces (l.frames - 1))
+    (tracks_in p (take l.k l.lanes))) × (1 ≤ l.frames) × (l.frames ≤ l.most)

@@ -6,4 +6,5 @@ use Rattle.looper_tracks.specs.Lanes.{tracks_in}
 use Rattle.looper_tracks.proofs.faces.take_faces.Given as goal
 
 abbrev pub invariant-loop-k : goal.invariant-loop-k
-invariant-loop-k l = ((p : PoolOf) → l.faces.items ≡ map face_on (tracks_in p (take l.k l.lanes))) × (vec_capacity l.faces ≡ vec_capacity l.fn.faces) × (length l.faces.items ≡ l.k)
+invariant-loop-k l = ((p : PoolOf) → l.faces.items ≡ map face_on (tracks_in p (take l.k l.lanes))) ×
+    (vec_capacity l.faces ≡ vec_capacity l.fn.faces) × (length l.faces.items ≡ l.k)

@@ -4,7 +4,9 @@ use Rattle.looper_tracks.proofs.LoadLemmas.{fewer_lists, short_at, used_more}
 use Rattle.looper_tracks.proofs.load.chunks_needed.Goals as goal
 
 pub chunks_of-chunks-requires : goal.chunks_of-chunks-requires
-chunks_of-chunks-requires c = short_at _ _ _ _ _ c.requires.strips c.requires.lists c.loop-k-test.true c.index-lists-k.is c.len.ensures
+chunks_of-chunks-requires c =
+    short_at _ _ _ _ _ c.requires.strips c.requires.lists c.loop-k-test.true c.index-lists-k.is
+    c.len.ensures
 
 pub overflow_add-chunks : goal.overflow_add-chunks
 overflow_add-chunks c =
@@ -16,5 +18,9 @@ overflow_add-chunks c =
 pub loop-k-preserved : goal.loop-k-preserved
 loop-k-preserved c =
     let sum = used_more c.args.lists.now c.loop-k.k c.index-lists-k.result c.loop-k-test.true
-    in let needs = c.chunks_of-chunks.ensures.value ∙ ap chunks_of (c.len.ensures ∙ ap length c.index-lists-k.is)
-    in (omega (arith, c.loop-k.invariant.0), omega (arith, c.loop-k.invariant.1, c.chunks_of-chunks.ensures.within))
+    in let needs = c.chunks_of-chunks.ensures.value
+    ∙ ap chunks_of (c.len.ensures ∙ ap length c.index-lists-k.is)
+    in (
+      omega (arith, c.loop-k.invariant.0),
+      omega (arith, c.loop-k.invariant.1, c.chunks_of-chunks.ensures.within),
+    )

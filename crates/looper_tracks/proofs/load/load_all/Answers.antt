@@ -26,10 +26,17 @@ bounds-strips-k c =
 
 pub begin-requires : goal.begin-requires
 begin-requires c =
-    may_as c.args.lists.now c.index-lists-k.result _ c.loop-k.k _ _ _ c.index-lists-k.is c.as_slice-list.ensures (may_load _ _ _ _ _ _ c.loop-k.k _ c.index-lists-k.result _ c.requires.strips c.requires.lists c.requires.room c.loop-k-test.true c.loop-k.invariant)
+    may_as c.args.lists.now c.index-lists-k.result _ c.loop-k.k _ _ _ c.index-lists-k.is
+    c.as_slice-list.ensures
+    (may_load _ _ _ _ _ _ c.loop-k.k _ c.index-lists-k.result _ c.requires.strips
+    c.requires.lists c.requires.room c.loop-k-test.true c.loop-k.invariant)
 
 pub loop-k-preserved : goal.loop-k-preserved
-loop-k-preserved c = loading_more _ _ _ _ _ _ _ c.loop-k.k _ _ c.index-lists-k.result _ c.requires.lists c.loop-k-test.true c.loop-k.invariant (did_as c.args.lists.now c.index-lists-k.result _ c.loop-k.k _ _ _ _ c.index-lists-k.is c.as_slice-list.ensures c.begin.ensures)
+loop-k-preserved c =
+    loading_more _ _ _ _ _ _ _ c.loop-k.k _ _ c.index-lists-k.result _ c.requires.lists
+    c.loop-k-test.true c.loop-k.invariant
+    (did_as c.args.lists.now c.index-lists-k.result _ c.loop-k.k _ _ _ _ c.index-lists-k.is
+    c.as_slice-list.ensures c.begin.ensures)
 
 pub returns : goal.returns
 returns c = loading_all _ _ _ _ _ _ _ c.loop-k-test.false c.loop-k.invariant

@@ -5,4 +5,5 @@ use Rattle.looper_tracks.specs.Lanes.{tracks_in}
 use Rattle.looper_tracks.proofs.read.any_pinned.Given as goal
 
 abbrev pub invariant-loop-k : goal.invariant-loop-k
-invariant-loop-k l = (p : PoolOf) → any_pinned (tracks_in p l.lanes) ≡ any_pinned (tracks_in p (drop l.k l.lanes))
+invariant-loop-k l = (p : PoolOf) →
+    any_pinned (tracks_in p l.lanes) ≡ any_pinned (tracks_in p (drop l.k l.lanes))

@@ -6,4 +6,5 @@ use Rattle.looper_tracks.specs.Tracks.{refused_on}
 use Rattle.looper_tracks.proofs.read.refused.Given as goal
 
 abbrev pub invariant-loop-k : goal.invariant-loop-k
-invariant-loop-k l = ((p : PoolOf) → l.sum ≡ sum_by refused_on (tracks_in p (take l.k l.lanes))) × (l.sum ≤ l.k * 4294967296)
+invariant-loop-k l = ((p : PoolOf) → l.sum ≡ sum_by refused_on (tracks_in p (take l.k l.lanes))) ×
+    (l.sum ≤ l.k * 4294967296)

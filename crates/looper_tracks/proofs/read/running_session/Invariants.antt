@@ -5,4 +5,5 @@ use Rattle.looper_tracks.specs.Lanes.{tracks_in}
 use Rattle.looper_tracks.proofs.read.running_session.Given as goal
 
 abbrev pub invariant-loop-k : goal.invariant-loop-k
-invariant-loop-k l = (p : PoolOf) → running_session (tracks_in p l.lanes) ≡ running_session (tracks_in p (drop l.k l.lanes))
+invariant-loop-k l = (p : PoolOf) →
+    running_session (tracks_in p l.lanes) ≡ running_session (tracks_in p (drop l.k l.lanes))

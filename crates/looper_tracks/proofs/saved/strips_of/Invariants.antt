@@ -5,4 +5,5 @@ use Rattle.looper_tracks.specs.Lanes.{tracks_in}
 use Rattle.looper_tracks.proofs.saved.strips_of.Given as goal
 
 abbrev pub invariant-loop-k : goal.invariant-loop-k
-invariant-loop-k l = ((p : PoolOf) → l.strips ≡ map strip_on (tracks_in p (take l.k l.lanes))) × (length l.strips ≡ l.k)
+invariant-loop-k l = ((p : PoolOf) → l.strips ≡ map strip_on (tracks_in p (take l.k l.lanes))) ×
+    (length l.strips ≡ l.k)

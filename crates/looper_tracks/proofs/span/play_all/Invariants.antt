@@ -3,4 +3,6 @@ use Rattle.looper_tracks.proofs.SumLemmas.{Summing}
 use Rattle.looper_tracks.proofs.span.play_all.Given as goal
 
 abbrev pub invariant-loop-k : goal.invariant-loop-k
-invariant-loop-k l = Summing l.step l.input l.fn.lanes l.fn.pool l.fn.sums l.lanes l.pool l.sums l.k × AreSumsOf l.k l.sums
+invariant-loop-k l =
+    Summing l.step l.input l.fn.lanes l.fn.pool l.fn.sums l.lanes l.pool l.sums l.k ×
+    AreSumsOf l.k l.sums

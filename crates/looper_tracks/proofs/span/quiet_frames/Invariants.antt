@@ -7,4 +7,6 @@ use Rattle.looper_tracks.proofs.span.quiet_frames.Given as goal
 
 abbrev pub invariant-loop-k : goal.invariant-loop-k
 invariant-loop-k l =
-    ((p : PoolOf) → AllByRecursion (IsQuietBehindFor (take l.frames l.input)) (tracks_in p (take l.k l.lanes))) × (1 ≤ l.frames) × (l.frames ≤ length l.input)
+    ((p : PoolOf) →
+    AllByRecursion (IsQuietBehindFor (take l.frames l.input))
+    (tracks_in p (take l.k l.lanes))) × (1 ≤ l.frames) × (l.frames ≤ length l.input)

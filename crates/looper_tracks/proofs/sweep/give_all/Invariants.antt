@@ -4,4 +4,6 @@ use Rattle.looper_tracks.proofs.SweepLemmas.{Sweeping}
 use Rattle.looper_tracks.proofs.sweep.give_all.Given as goal
 
 abbrev pub invariant-loop-k : goal.invariant-loop-k
-invariant-loop-k l = Sweeping (on_loop (gives l.press l.verb l.frame l.long_press)) l.fn.lanes l.fn.pool l.lanes l.pool l.k
+invariant-loop-k l =
+    Sweeping (on_loop (gives l.press l.verb l.frame l.long_press)) l.fn.lanes l.fn.pool l.lanes
+    l.pool l.k

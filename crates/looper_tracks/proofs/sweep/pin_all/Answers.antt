@@ -6,8 +6,14 @@ use Rattle.looper_tracks.proofs.sweep.pin_all.Goals as goal
 
 pub pin-requires : goal.pin-requires
 pin-requires c =
-    let less : c.loop-k.k < length c.loop-k.lanes = omega (arith, c.loop-k-test.true, c.loop-k.auto.lanes)
-    in record { free = free_left _ _ _ _ _ less (get_or_default _ _ _ _ less) c.loop-k.invariant.rest c.requires.free }
+    let less : c.loop-k.k < length c.loop-k.lanes =
+    omega (arith, c.loop-k-test.true, c.loop-k.auto.lanes)
+    in record {
+      free =
+          free_left _ _ _ _ _ less (get_or_default _ _ _ _ less) c.loop-k.invariant.rest
+          c.requires.free;
+    }
 
 pub loop-k-preserved : goal.loop-k-preserved
-loop-k-preserved c = sweeping_alone _ _ _ _ _ _ _ c.loop-k.invariant c.loop-k-test.true c.pin.ensures
+loop-k-preserved c =
+    sweeping_alone _ _ _ _ _ _ _ c.loop-k.invariant c.loop-k-test.true c.pin.ensures

@@ -3,4 +3,5 @@ use Rattle.looper_tracks.proofs.SweepLemmas.{Sweeping}
 use Rattle.looper_tracks.proofs.sweep.pin_all.Given as goal
 
 abbrev pub invariant-loop-k : goal.invariant-loop-k
-invariant-loop-k l = Sweeping (λ reach t. pinned_for l.asker t) l.fn.lanes l.fn.pool l.lanes l.pool l.k
+invariant-loop-k l =
+    Sweeping (λ reach t. pinned_for l.asker t) l.fn.lanes l.fn.pool l.lanes l.pool l.k

@@ -5,7 +5,8 @@ use Rattle.looper_tracks.proofs.sweep.set_one.Goals as goal
 
 pub returns-then-index-lanes : goal.returns-then-index-lanes
 returns-then-index-lanes c =
-    rw (to_z-of_z w32 c.args.value c.ranges.value) at (one_alone _ _ _ _ _ _ c.if-index-lanes.true c.requires.inside c.set.ensures)
+    rw (to_z-of_z w32 c.args.value c.ranges.value) at
+    (one_alone _ _ _ _ _ _ c.if-index-lanes.true c.requires.inside c.set.ensures)
 
 pub returns-else-index-lanes : goal.returns-else-index-lanes
 returns-else-index-lanes c = none_done _ _ _ _ c.if-index-lanes.false c.requires.inside

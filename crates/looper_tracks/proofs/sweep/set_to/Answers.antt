@@ -7,4 +7,7 @@ use Rattle.looper_tracks.proofs.sweep.set_to.Goals as goal
 
 pub returns-in-All : goal.returns-in-All
 returns-in-All c =
-    subst (λ t. DidAll (at_target t c.args.selected (on_loop (sets c.args.control c.args.value))) c.args.lanes.now c.set_all.new.lanes c.args.pool.now c.args.pool.now) (sym c.in-All.is) (rw (to_z-of_z w32 c.args.value c.ranges.value) at c.set_all.ensures)
+    subst
+    (λ t. DidAll (at_target t c.args.selected (on_loop (sets c.args.control c.args.value)))
+    c.args.lanes.now c.set_all.new.lanes c.args.pool.now c.args.pool.now) (sym c.in-All.is)
+    (rw (to_z-of_z w32 c.args.value c.ranges.value) at c.set_all.ensures)

@@ -2,7 +2,10 @@ use Rattle.looper_tracks.proofs.LoadLemmas.{lane_begun, lane_without, some_where
 use Rattle.looper_tracks.proofs.lane.Lane.begin.Goals as goal
 
 pub returns-then-not-is_empty : goal.returns-then-not-is_empty
-returns-then-not-is_empty c = lane_begun _ _ _ _ _ _ _ c.requires.lane (some_where _ _ c.is_empty.ensures c.if-not-is_empty.true) c.load.ensures
+returns-then-not-is_empty c =
+    lane_begun _ _ _ _ _ _ _ c.requires.lane
+    (some_where _ _ c.is_empty.ensures c.if-not-is_empty.true) c.load.ensures
 
 pub returns-else-not-is_empty : goal.returns-else-not-is_empty
-returns-else-not-is_empty c = lane_without _ _ _ _ _ c.requires (none_where _ _ c.is_empty.ensures c.if-not-is_empty.false)
+returns-else-not-is_empty c =
+    lane_without _ _ _ _ _ c.requires (none_where _ _ c.is_empty.ensures c.if-not-is_empty.false)
