@@ -1,4 +1,6 @@
 # make demo      builds the proved program and runs it on examples/first-loop/ in a fresh folder
+# make examples  renders every session of examples/ into out/examples, and says what each second has
+# make picture   draws one of them as docs/two-loops.svg
 # make test      the gate: every proof, must-fail edit, test and program, and the repository's own checks
 # make install   puts the program and its manual page under PREFIX
 # `rt` has to be on the PATH. Only a proved program is built.
@@ -7,7 +9,7 @@ PREFIX ?= /usr/local
 PROGRAM = crates/looper/out/looper
 DEMO = out/demo
 
-.PHONY: all demo test install
+.PHONY: all demo examples picture test install
 
 all:
 	cd crates/looper && rt run -- --version
@@ -19,6 +21,21 @@ demo: all
 	cd $(DEMO) && $(CURDIR)/$(PROGRAM) render in.wav journal.txt out.wav
 	@ls -l $(DEMO)
 	@checks/phrase_repeats.sh $(DEMO)
+	@echo "To hear it: aplay $(DEMO)/out.wav, or sox $(DEMO)/out.wav -d"
+	@echo
+	@echo "'make examples' renders all sessions of examples/ into out/examples:"
+	@sed -n 's/^| \[\([^]]*\)\].*| \(.*\) |$$/  \1: \2/p' examples/README.md
+	@echo "To hear one: aplay out/examples/layers/out.wav, or sox out/examples/layers/out.wav -d"
+
+examples: all
+	rm -rf out/examples
+	mkdir -p out/examples
+	checks/examples.py $(PROGRAM) out/examples
+
+picture: all
+	mkdir -p out
+	LOOPER=$(PROGRAM) tools/picture examples/two-loops/in.wav examples/two-loops/journal.txt --loops 2 > out/picture.svg
+	mv out/picture.svg docs/two-loops.svg
 
 test:
 	.ci/run
