@@ -4,6 +4,7 @@ pub mod OpeningLemmas
 pub mod FreshLemmas
 pub mod AlikeLemmas
 pub mod WriteLemmas
+pub mod SpanWriteLemmas
 pub mod ClosingLemmas
 pub mod ReadLemmas
 pub mod ExtendingLemmas

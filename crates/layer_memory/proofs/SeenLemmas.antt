@@ -155,12 +155,12 @@ pub unpinned-mapped : {A B : Type 0} (f : A → B) (s : Stack A) → stack_map f
 unpinned-mapped f s = refl
 
 -- whether a cell is fresh is the same of frames and addresses
-fresh_at-mapped : {A B : Type 0} (f : A → B) (k : ℕ) (cs : List (Cell A)) → is_fresh (slice_get (map (cell_map f) cs) k) ≡ is_fresh (slice_get cs k)
+pub fresh_at-mapped : {A B : Type 0} (f : A → B) (k : ℕ) (cs : List (Cell A)) → is_fresh (slice_get (map (cell_map f) cs) k) ≡ is_fresh (slice_get cs k)
 fresh_at-mapped f k [] = refl
 fresh_at-mapped f zero (c ∷ cs) = refl
 fresh_at-mapped f (suc k) (c ∷ cs) = fresh_at-mapped f k cs
 
-cells-mapped : {A B : Type 0} (f : A → B) (ls : List (Layer A)) → current_cells (map (layer_map f) ls) ≡ map (cell_map f) (current_cells ls)
+pub cells-mapped : {A B : Type 0} (f : A → B) (ls : List (Layer A)) → current_cells (map (layer_map f) ls) ≡ map (cell_map f) (current_cells ls)
 cells-mapped f [] = refl
 cells-mapped f (l ∷ ls) = refl
 

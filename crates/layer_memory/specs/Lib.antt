@@ -1,6 +1,7 @@
 pub mod Kept
 pub mod Seen
 pub mod Answers
+pub mod Spans
 pub mod Appending
 pub mod Sharing
 pub mod Measures

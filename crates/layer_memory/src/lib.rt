@@ -22,6 +22,7 @@ mod moving;
 mod opening;
 mod pinning;
 mod reading;
+mod rows;
 mod sizes;
 mod spans;
 #[cfg(test)]

@@ -1,9 +1,10 @@
 -- The layer that is being written: its addresses in pieces, a floor from which on they are fresh, the address that the next
 -- write takes, which is above all of them, its seams, and the run that goes on.
 -- "The layer that is written" in docs/rules.md.
-use Rattle.std.specs.Prelude.{◌≡◌, ◌≤◌, ℕ, ◌+◌, List, ◌++◌, length, take, Option, Some, None}
+use Rattle.std.specs.Prelude.{◌≡◌, ◌≤◌, ℕ, zero, suc, ◌+◌, List, ◌++◌, length, take, Option, Some, None}
 use Rattle.sl_base.specs.Limits.{max_list_frames, max_seams}
 use Rattle.sl_commands.specs.declared.How.{How}
+use Rattle.sl_commands.specs.declared.How.TheVariants.{Forward}
 use Rattle.looper_rules.specs.Stack.{LastWrite}
 use Rattle.pieces.specs.Pieces.{Piece, Solid, addresses}
 use Rattle.pieces.specs.Splitting.{before}
@@ -47,6 +48,11 @@ fill_written how place f =
       run = Some (record { place = place; how = how });
       pieces = pieces_written how place f.next f.pieces;
     }
+
+-- so many addresses written in a row, each over the one at its place
+abbrev pub fill_written_span : ℕ → ℕ → FillOf → FillOf
+fill_written_span zero place f = f
+fill_written_span (suc k) place f = fill_written_span k (place + 1) (fill_written Forward place f)
 
 -- the run ended
 abbrev pub fill_broken : FillOf → FillOf

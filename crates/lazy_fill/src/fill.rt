@@ -1,19 +1,20 @@
 //! The layer that is being written.
 
-ghost use Rattle.std.specs.Prelude.{◌≡◌, ◌≤◌, ◌<◌, ◌+◌, ◌^◌, [], length, is_some, IfOk, IfSome, nat_le, slice_index};
+ghost use Rattle.std.specs.Prelude.{◌≡◌, ◌≤◌, ◌<◌, ◌+◌, ◌^◌, [], length, is_some, IfOk, IsTrue, IfSome, nat_le, slice_index, get_or, ℕ, false};
 ghost use Rattle.sl_base.specs.Limits.{max_list_frames, max_seams};
+ghost use Rattle.sl_commands.specs.declared.How.TheVariants.{Forward};
 ghost use Rattle.looper_rules.specs.Layers.{fresh_cell};
 ghost use Rattle.looper_rules.specs.WritePlaces.{Follows, IsPlace};
 ghost use Rattle.looper_rules.specs.Writing.{with_cell};
 ghost use Rattle.pieces.specs.Pieces.{Solid, addresses};
 ghost use Rattle.pieces.specs.Splitting.{IsHint};
 ghost use Rattle.lazy_fill.specs.Addresses.{Below};
-ghost use Rattle.lazy_fill.specs.Fills.{IsFill, fill_broken, fill_cut, fill_extended, fill_frozen, fill_started, fill_written};
+ghost use Rattle.lazy_fill.specs.Fills.{IsFill, fill_broken, fill_cut, fill_extended, fill_frozen, fill_started, fill_written, fill_written_span};
 ghost use Rattle.lazy_fill.specs.Marks.{marked};
 ghost use Rattle.lazy_fill.specs.Runs.{IsRunOn, IsShort, MeetsPiece, more_seams};
 
 use crate::write::write_address;
-use pieces::{Hint, Piece, PieceList};
+use pieces::{Hint, Piece, PieceList, run_from};
 use sl_base::{MAX_SEAMS, Memory};
 use sl_commands::How;
 use std::alloc::Global;
@@ -178,6 +179,42 @@ impl Fill {
         self.floor <= address
     }
 
+    /// How many cells from a place on, at most `count`, surely aren't fresh: as far as its piece goes.
+    #[tactic(auto, using(crate::proofs::SpanLemmas::cells))]
+    pub fn old_cells(&self, place: u32, count: u32) -> u32
+        requires place { place < length self.now.cells }
+        requires some { 1 ≤ count }
+        ensures within { result ≤ count }
+        ensures inside { place + result ≤ length self.now.cells }
+        ensures old { (k : ℕ) → k < result → nat_le self.now.floor (get_or self.now.cells (place + k) 0) ≡ false }
+    {
+        let run = run_from(self.list.pieces(), self.list.near(place), place, count);
+        if run.start >= self.floor {
+            return 0;
+        }
+        if run.backward {
+            return run.len();
+        }
+        run.len().min(self.floor - run.start)
+    }
+
+    /// How many cells from a place on, at most `count`, are fresh and hold addresses that rise one by one: as far as its piece goes.
+    #[tactic(auto, using(crate::proofs::SpanLemmas::cells))]
+    pub fn fresh_cells(&self, place: u32, count: u32) -> u32
+        requires place { place < length self.now.cells }
+        requires some { 1 ≤ count }
+        ensures within { result ≤ count }
+        ensures inside { place + result ≤ length self.now.cells }
+        ensures row { (k : ℕ) → k < result → get_or self.now.cells (place + k) 0 ≡ get_or self.now.cells place 0 + k }
+        ensures fresh { 1 ≤ result → self.now.floor ≤ get_or self.now.cells place 0 }
+    {
+        let run = run_from(self.list.pieces(), self.list.near(place), place, count);
+        if run.backward || run.start < self.floor {
+            return 0;
+        }
+        run.len()
+    }
+
     /// Ends the run.
     pub fn break_run(&mut self)
         ensures { self.new ≡ fill_broken self.old }
@@ -240,5 +277,31 @@ impl Fill {
         self.seams += more;
         self.next += 1;
         self.run = Some(Last { place, how });
+    }
+
+    /// Writes the next addresses in a row, each over the one at its place, as many as one piece takes in a run that goes on, but
+    /// not its last. It says how many, at most `count`; none where no run goes on.
+    #[tactic(auto, using(crate::proofs::SpanLemmas::spans))]
+    pub fn write_span(&mut self, place: u32, count: u32) -> u32
+        requires within { place + count ≤ length self.old.cells }
+        requires follows { Follows self.old.run Forward place }
+        requires next { self.old.next + count < 2 ^ 32 }
+        ensures value { self.new ≡ fill_written_span result place self.old }
+        ensures within { result ≤ count }
+        ensures runs { 1 ≤ result → IsTrue (is_some self.old.run) }
+    {
+        if self.run.is_none() {
+            return 0;
+        }
+        let done = self.list.overwrite_span(place, self.next, count);
+        if done == 0 {
+            return 0;
+        }
+        self.next += done;
+        self.run = Some(Last {
+            place: place + done - 1,
+            how: How::Forward,
+        });
+        done
     }
 }

@@ -9,5 +9,6 @@ pub mod Advances
 pub mod Quiet
 pub mod Loading
 pub mod Stretches
+pub mod Rows
 pub mod Budgets
 pub mod Laws

@@ -3,3 +3,4 @@ pub mod PoolLemmas
 pub mod SlotLemmas
 pub mod CutLemmas
 pub mod SpanLemmas
+pub mod PutLemmas

@@ -1,10 +1,11 @@
 -- Frames that are padded with silence, and free chunks.
-use Rattle.std.proofs.Common.{◌≡◌, ◌≢◌, ◌≤◌, ◌<◌, ℕ, zero, suc, ◌+◌, ◌-◌, ◌*◌, ◌/◌, ◌%◌, List, [], ◌∷◌, ◌++◌, length, refl, sym, ap, arith, get_or, set, length-append, append_assoc, replicate}
+use Rattle.std.proofs.Common.{◌≡◌, ◌≢◌, ◌≤◌, ◌<◌, ℕ, zero, suc, ◌+◌, ◌-◌, ◌*◌, ◌/◌, ◌%◌, List, [], ◌∷◌, ◌++◌, length, refl, sym, ap, arith, get_or, set, length-append, append_assoc, replicate, take, drop}
 use Rattle.std.proofs.lemmas.List.{get_or_append_left, get_or-replicate, get_or_past, length-replicate, set-append_left, append-nil, length-set, replicate-append-replicate}
+use Rattle.std.proofs.lemmas.List.{length-drop, length-take-le, get_or-append_right as get_or_at_right}
 use Rattle.std.proofs.Math.Seq.{get_or-append_right}
 use Rattle.sl_base.specs.Sounds.{Sound, silence}
 use Rattle.loop_tape.proofs.ChunkLemmas.{length-last, before_last, at_last, distinct_more, distinct_fewer, last_outside}
-use Rattle.loop_tape.specs.Pools.{PoolOf, IsPool, IsTaken, IsOutside, HoldsPool, padded, downward, free_of}
+use Rattle.loop_tape.specs.Pools.{PoolOf, IsPool, IsTaken, IsOutside, HoldsPool, padded, with_frames, downward, free_of}
 
 -- padded frames
 
@@ -22,6 +23,67 @@ set-padded n xs i x lt = rw (length-set xs i x) (set-append_left xs (replicate (
 
 pub length-padded : (n : ℕ) (xs : List Sound) → length xs ≤ n → length (padded n xs) ≡ n
 length-padded n xs le = let e = length-append xs (replicate (n - length xs) silence) in let f = length-replicate (n - length xs) silence in omega (arith, e, f, le)
+
+-- frames put before the padding
+pub length-with_frames : (slot : ℕ) (ys xs : List Sound) → slot + length ys ≤ length xs → length (with_frames slot ys xs) ≡ length xs
+length-with_frames slot ys xs le =
+    let a = length-append (take slot xs) (ys ++ drop (slot + length ys) xs) in
+    let b = length-append ys (drop (slot + length ys) xs) in
+    let c = length-drop (slot + length ys) xs in
+    let d = length-take-le slot xs (omega (arith, le)) in
+    omega (arith, a, b, c, d, le)
+
+take-before : (k : ℕ) (xs ys : List Sound) → k ≤ length xs → take k (xs ++ ys) ≡ take k xs
+take-before zero xs ys le = refl
+take-before (suc k) [] ys le = absurd (omega (arith, le))
+take-before (suc k) (x ∷ xs) ys le = ap (λ t. x ∷ t) (take-before k xs ys (omega (arith, le)))
+
+drop-before : (k : ℕ) (xs ys : List Sound) → k ≤ length xs → drop k (xs ++ ys) ≡ drop k xs ++ ys
+drop-before zero xs ys le = refl
+drop-before (suc k) [] ys le = absurd (omega (arith, le))
+drop-before (suc k) (x ∷ xs) ys le = drop-before k xs ys (omega (arith, le))
+
+pub with_frames-padded : (n slot : ℕ) (ys xs : List Sound) → slot + length ys ≤ length xs → with_frames slot ys (padded n xs) ≡ padded n (with_frames slot ys xs)
+with_frames-padded n slot ys xs le =
+    let pad = replicate (n - length xs) silence in
+    let l = length-with_frames slot ys xs le in
+    let a = append_assoc (take slot xs) (ys ++ drop (slot + length ys) xs) pad in
+    let b = append_assoc ys (drop (slot + length ys) xs) pad in
+    rw (l, take-before slot xs pad (omega (arith, le)), drop-before (slot + length ys) xs pad le, a, b) refl
+
+-- the frames that were put, and the others
+pub with_frames-there : (slot k : ℕ) (ys xs : List Sound) → slot + length ys ≤ length xs → k < length ys → get_or (with_frames slot ys xs) (slot + k) silence ≡ get_or ys k silence
+with_frames-there slot k ys xs le lt =
+    let t = length-take-le slot xs (omega (arith, le)) in
+    let a = get_or_at_right (take slot xs) (ys ++ drop (slot + length ys) xs) slot (slot + k) silence t (omega arith) in
+    let z : slot + k - slot ≡ k = omega arith in
+    rw (a, z) (get_or_append_left ys (drop (slot + length ys) xs) silence k lt)
+
+pub with_frames-before : (slot i : ℕ) (ys xs : List Sound) → i < slot → slot ≤ length xs → get_or (with_frames slot ys xs) i silence ≡ get_or xs i silence
+with_frames-before slot i ys xs lt le =
+    let t = length-take-le slot xs le in
+    let a = get_or_append_left (take slot xs) (ys ++ drop (slot + length ys) xs) silence i (omega (arith, t, lt)) in
+    rw a (get_or-take slot i xs lt)
+  where
+    get_or-take : (n i : ℕ) (xs : List Sound) → i < n → get_or (take n xs) i silence ≡ get_or xs i silence
+    get_or-take zero i xs lt = absurd (omega (arith, lt))
+    get_or-take (suc n) i [] lt = refl
+    get_or-take (suc n) zero (x ∷ xs) lt = refl
+    get_or-take (suc n) (suc i) (x ∷ xs) lt = get_or-take n i xs (omega (arith, lt))
+
+dropped-at : (n i : ℕ) (xs : List Sound) → n ≤ i → get_or (drop n xs) (i - n) silence ≡ get_or xs i silence
+dropped-at zero i xs le = let z : i - 0 ≡ i = omega arith in rw z refl
+dropped-at (suc n) i [] le = refl
+dropped-at (suc n) zero (x ∷ xs) le = absurd (omega (arith, le))
+dropped-at (suc n) (suc i) (x ∷ xs) le = let z : suc i - suc n ≡ i - n = omega arith in rw z (dropped-at n i xs (omega (arith, le)))
+
+pub with_frames-behind : (slot i : ℕ) (ys xs : List Sound) → slot + length ys ≤ i → slot ≤ length xs → get_or (with_frames slot ys xs) i silence ≡ get_or xs i silence
+with_frames-behind slot i ys xs lt le =
+    let t = length-take-le slot xs le in
+    let a = get_or_at_right (take slot xs) (ys ++ drop (slot + length ys) xs) slot i silence t (omega (arith, lt)) in
+    let b = get_or_at_right ys (drop (slot + length ys) xs) (length ys) (i - slot) silence refl (omega (arith, lt)) in
+    let z : i - slot - length ys ≡ i - (slot + length ys) = omega arith in
+    rw (a, b, z) (dropped-at (slot + length ys) i xs lt)
 
 -- padding twice
 pub padded-padded : (n m : ℕ) (xs : List Sound) → m ≤ n → padded n (padded m xs) ≡ padded n xs
@@ -210,3 +272,5 @@ pub ruleset checks = (held_pool)
 pub ruleset reads = (slot_filled, part_filled, get_or-padded)
 
 pub ruleset writes = (slot_filled, set-padded)
+
+pub ruleset overwrites = (slot_filled, part_filled, with_frames-padded, length-with_frames)

@@ -147,3 +147,5 @@ pub ruleset slots = (slot_taken)
 pub ruleset sets = (is_set)
 
 pub ruleset pushes = (end_taken, room_taken, pushed_within, pushed_new)
+
+pub ruleset ends = (end_taken)

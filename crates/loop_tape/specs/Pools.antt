@@ -1,7 +1,7 @@
 -- A pool has a number of chunks, each of 4096 frames, and all tapes of a looper take their chunks from it.
 -- A chunk is free, or a tape has it. A frame of a chunk to which nothing was ever written is silence.
 -- "Room" in docs/rules.md.
-use Rattle.std.specs.Prelude.{◌≡◌, ◌≢◌, ◌≤◌, ◌<◌, ℕ, zero, suc, ◌+◌, ◌-◌, ◌*◌, List, [], ◌∷◌, ◌++◌, length, get_or, replicate}
+use Rattle.std.specs.Prelude.{◌≡◌, ◌≢◌, ◌≤◌, ◌<◌, ℕ, zero, suc, ◌+◌, ◌-◌, ◌*◌, List, [], ◌∷◌, ◌++◌, length, take, drop, get_or, replicate}
 use Rattle.sl_base.specs.Limits.{chunk_frames, max_chunks}
 use Rattle.sl_base.specs.Sounds.{Sound, silence}
 
@@ -34,6 +34,10 @@ pub record IsTaken (p : PoolOf) (chunk : ℕ) : Type 0 where
 -- the frames, and silence up to this length
 abbrev pub padded : ℕ → List Sound → List Sound
 padded n frames = frames ++ replicate (n - length frames) silence
+
+-- the frames with others in place of as many from a place on
+abbrev pub with_frames : ℕ → List Sound → List Sound → List Sound
+with_frames slot xs frames = take slot frames ++ (xs ++ drop (slot + length xs) frames)
 
 -- so many chunks from this one on, the last first
 abbrev pub downward : ℕ → ℕ → List ℕ

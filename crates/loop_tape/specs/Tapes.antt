@@ -77,3 +77,25 @@ pub record IsSet (t t' : TapeOf) (p p' : PoolOf) (address : ℕ) (x : Sound) : T
   pub others : OthersStay t t' p p'
   pub free : p'.free ≡ p.free
   pub all : p'.all ≡ p.all
+
+-- the tape has these frames more
+pub record PushedAll (t t' : TapeOf) (p p' : PoolOf) (xs : List Sound) : Type 0 where
+  pub len : t'.len ≡ t.len + length xs
+  pub room : t'.room ≡ t.room
+  pub new : (k : ℕ) → k < length xs → at t' p' (t.len + k) ≡ get_or xs k silence
+  pub kept : (address : ℕ) → address < t.len → at t' p' address ≡ at t p address
+  pub owned : Owns t' p'
+  pub others : OthersStay t t' p p'
+  pub chunks : length t'.chunks + length p'.free ≡ length t.chunks + length p.free
+  pub all : p'.all ≡ p.all
+
+-- frames of the tape from an address on have changed
+pub record AreSet (t t' : TapeOf) (p p' : PoolOf) (address : ℕ) (xs : List Sound) : Type 0 where
+  pub tape : t' ≡ t
+  pub there : (k : ℕ) → k < length xs → at t' p' (address + k) ≡ get_or xs k silence
+  pub before : (a : ℕ) → a < address → at t' p' a ≡ at t p a
+  pub behind : (a : ℕ) → address + length xs ≤ a → a < t.len → at t' p' a ≡ at t p a
+  pub owned : Owns t' p'
+  pub others : OthersStay t t' p p'
+  pub free : p'.free ≡ p.free
+  pub all : p'.all ≡ p.all

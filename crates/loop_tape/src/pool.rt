@@ -4,7 +4,7 @@ ghost use Rattle.std.specs.Prelude.{◌≡◌, ◌≢◌, ◌≤◌, ◌<◌, �
 ghost use Rattle.std.specs.Vec.{vec_capacity};
 ghost use Rattle.sl_base.specs.Limits.{chunk_frames, max_chunks};
 ghost use Rattle.sl_base.specs.Sounds.{silence};
-ghost use Rattle.loop_tape.specs.Pools.{IsPool, IsTaken, IsOutside};
+ghost use Rattle.loop_tape.specs.Pools.{IsPool, IsTaken, IsOutside, with_frames};
 
 use crate::filling::fill_to;
 use sl_base::{CHUNK_FRAMES, Frame, Memory};
@@ -108,6 +108,16 @@ impl Pool {
         ensures { self.new ≡ record { store = slice_set self.old.store slot frame; free = self.old.free; all = self.old.all } }
     {
         self.store[slot] = frame;
+    }
+
+    /// Puts frames from here on, all in one chunk that a tape has.
+    #[tactic(auto, using(crate::proofs::PoolLemmas::overwrites))]
+    pub(crate) fn write_frames(&mut self, slot: usize, frames: &[Frame])
+        requires taken { IsTaken self.old (slot / chunk_frames) }
+        requires within { slot % chunk_frames + length frames.now ≤ chunk_frames }
+        ensures { self.new ≡ record { store = with_frames slot frames.now self.old.store; free = self.old.free; all = self.old.all } }
+    {
+        self.store[slot..slot + frames.len()].copy_from_slice(frames);
     }
 
     /// Takes back a chunk that a tape had.

@@ -5,7 +5,7 @@ ghost use Rattle.std.specs.Vec.{vec_capacity};
 ghost use Rattle.sl_base.specs.Limits.{chunk_frames, max_chunks};
 ghost use Rattle.sl_base.specs.Sounds.{silence};
 ghost use Rattle.loop_tape.specs.Pools.{PoolOf, IsPool, IsTaken};
-ghost use Rattle.loop_tape.specs.Tapes.{TapeOf, slot, at, Owns, OthersStay, IsWhole, Pushed, Cut, IsSet};
+ghost use Rattle.loop_tape.specs.Tapes.{TapeOf, slot, at, Owns, OthersStay, IsWhole, Pushed, PushedAll, Cut, IsSet, AreSet};
 
 use crate::pool::Pool;
 use sl_base::{CHUNK_FRAMES, Frame, Memory};
@@ -150,6 +150,56 @@ impl Tape {
         }
         self.push_within(pool, frame);
         true
+    }
+
+    /// How many frames come before the end of the last chunk, 0 where that is full.
+    pub fn rest(&self) -> u32
+        ensures within { 1 ≤ result → self.now.len % chunk_frames + result ≤ chunk_frames }
+        ensures begun { 1 ≤ result → self.now.len % chunk_frames ≢ 0 }
+    {
+        let part = self.len % CHUNK_FRAMES;
+        if part == 0 { 0 } else { CHUNK_FRAMES - part }
+    }
+
+    /// Where the next frame will lie, within the last chunk.
+    #[tactic(auto, using(crate::proofs::SlotLemmas::ends))]
+    fn end_slot(&self, pool: &Pool) -> usize
+        requires owns { Owns self.now pool.now }
+        requires begun { self.now.len % chunk_frames ≢ 0 }
+        ensures value { result ≡ slot self.now.chunks self.now.len }
+        ensures taken { IsTaken pool.now (result / chunk_frames) }
+        ensures whole { IsWhole self.now }
+    {
+        self.chunks[(self.len / CHUNK_FRAMES) as usize] as usize * CHUNK_FRAMES as usize
+            + (self.len % CHUNK_FRAMES) as usize
+    }
+
+    /// Puts frames behind the others, all of them within the last chunk.
+    #[tactic(auto, using(crate::proofs::SlotLemmas::pushes, crate::proofs::PutLemmas::puts))]
+    pub fn push_frames(&mut self, pool: &mut Pool, frames: &[Frame])
+        requires owns { Owns self.old pool.old }
+        requires begun { self.old.len % chunk_frames ≢ 0 }
+        requires within { self.old.len % chunk_frames + length frames.now ≤ chunk_frames }
+        ensures { PushedAll self.old self.new pool.old pool.new frames.now }
+    {
+        pool.check();
+        let slot = self.end_slot(pool);
+        pool.write_frames(slot, frames);
+        self.len += frames.len() as u32;
+    }
+
+    /// Puts frames in place of those from an address on, all of them in one chunk.
+    #[tactic(auto, using(crate::proofs::SlotLemmas::sets, crate::proofs::PutLemmas::puts))]
+    pub fn set_frames(&mut self, pool: &mut Pool, address: u32, frames: &[Frame])
+        requires owns { Owns self.old pool.old }
+        requires some { 1 ≤ length frames.now }
+        requires below { address + length frames.now ≤ self.old.len }
+        requires within { address % chunk_frames + length frames.now ≤ chunk_frames }
+        ensures { AreSet self.old self.new pool.old pool.new address frames.now }
+    {
+        pool.check();
+        let slot = self.slot_of(pool, address);
+        pool.write_frames(slot, frames);
     }
 
     /// Gives back the last chunk, and the frames in it.

@@ -6,3 +6,4 @@ pub mod SplicingLemmas
 pub mod RunLemmas
 pub mod RepeatLemmas
 pub mod BorderLemmas
+pub mod SpanLemmas

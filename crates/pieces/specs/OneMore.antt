@@ -2,7 +2,7 @@
 -- Where the piece before it goes on to that address, this piece grows, and no piece is added. Backward it is the piece
 -- behind it that grows. So a run of such writes at addresses in order adds pieces at its first write alone.
 -- "Pieces" in docs/rules.md.
-use Rattle.std.specs.Prelude.{◌≡◌, ◌≤◌, ℕ, ◌+◌, ◌==◌, List, [], ◌∷◌, ◌++◌, Bool, true, false, if◌then◌else◌, IsTrue, not, ◌||◌, ◌&&◌}
+use Rattle.std.specs.Prelude.{◌≡◌, ◌≤◌, ℕ, zero, suc, ◌+◌, ◌==◌, List, [], ◌∷◌, ◌++◌, Bool, true, false, if◌then◌else◌, IsTrue, not, ◌||◌, ◌&&◌}
 use Rattle.pieces.specs.Pieces.{Piece, total}
 use Rattle.pieces.specs.Splitting.{before, behind, offset}
 
@@ -17,6 +17,10 @@ grows a p = (not p.backward || p.len == 1) && (p.start + p.len == a)
 -- the piece with the address behind its last
 abbrev pub grown : Piece → Piece
 grown p = record { start = p.start; len = p.len + 1; backward = false }
+
+-- the piece with so many addresses behind its last
+abbrev pub grown_by : ℕ → Piece → Piece
+grown_by k p = record { start = p.start; len = p.len + k; backward = false }
 
 -- whether a piece goes on backward to an address
 abbrev pub grows_down : ℕ → Piece → Bool
@@ -59,6 +63,11 @@ starts a (p ∷ ps) = grows_down a p
 -- the pieces with an address in place of that at a place
 abbrev pub overwritten : ℕ → ℕ → List Piece → List Piece
 overwritten place a ps = joined a (before place ps) ++ behind 1 (behind place ps)
+
+-- the same for so many places and addresses in a row
+abbrev pub overwritten_span : ℕ → ℕ → ℕ → List Piece → List Piece
+overwritten_span zero place a ps = ps
+overwritten_span (suc k) place a ps = overwritten_span k (place + 1) (a + 1) (overwritten place a ps)
 
 -- the same, where it goes on with what stands behind it
 abbrev pub overwritten_backward : ℕ → ℕ → List Piece → List Piece

@@ -3,14 +3,14 @@
 ghost use Rattle.std.specs.Prelude.{◌≡◌, ◌≤◌, ◌<◌, ◌+◌, ◌^◌, [], ◌∷◌, ◌++◌, length, slice_index, slice_set, IfOk};
 ghost use Rattle.std.specs.List.{insert};
 ghost use Rattle.sl_base.specs.Limits.{max_seams};
-ghost use Rattle.pieces.specs.OneMore.{Continues, ContinuesBackward, inserted, joined, overwritten, overwritten_backward};
+ghost use Rattle.pieces.specs.OneMore.{Continues, ContinuesBackward, inserted, joined, overwritten, overwritten_backward, overwritten_span};
 ghost use Rattle.pieces.specs.Pieces.{Solid, addresses, holding, total as total_of};
 ghost use Rattle.pieces.specs.Splitting.{IsHint};
 
 use crate::edit::{push_all, total_in};
 use crate::find::{Hint, address_from, find_from, nearest};
 use crate::piece::Piece;
-use crate::replace::{append_vec, insert_vec, overwrite_vec, overwrite_vec_backward};
+use crate::replace::{append_vec, insert_vec, move_border_by, overwrite_vec, overwrite_vec_backward};
 use sl_base::Memory;
 use std::alloc::Global;
 use std::marker::Model;
@@ -135,6 +135,20 @@ impl PieceList {
             piece,
             begin: place + 1,
         };
+    }
+
+    /// Puts addresses in a row in place of those from a place on, as many as a run that goes on takes from one piece, but not the
+    /// last of them, and at most `count`. It says how many.
+    #[tactic(auto, using(crate::proofs::OneMoreLemmas::lengths, crate::proofs::SpanLemmas::spans))]
+    pub fn overwrite_span(&mut self, place: u32, address: u32, count: u32) -> u32
+        requires within { place + count ≤ length (addresses self.old.items) }
+        requires short { address + count < 2 ^ 32 }
+        ensures within { result ≤ count }
+        ensures pieces { self.new ≡ holding (overwritten_span result place address self.old.items) self.old }
+    {
+        let done = move_border_by(&mut self.pieces, self.hint, place, address, count);
+        self.hint.begin += done;
+        done
     }
 
     /// Puts an address in place of that at a place, where the next one comes before it.

@@ -1,7 +1,7 @@
 //! One piece.
 
 ghost use Rattle.std.specs.Prelude.{◌==◌, ◌||◌, ◌≡◌, ◌≤◌, ◌<◌, ◌+◌, ◌-◌, ◌^◌, IsTrue};
-ghost use Rattle.pieces.specs.OneMore.{grown, grown_down, grows, grows_down, one};
+ghost use Rattle.pieces.specs.OneMore.{grown, grown_by, grown_down, grows, grows_down, one};
 ghost use Rattle.pieces.specs.Pieces.{address_in};
 ghost use Rattle.pieces.specs.Splitting.{back as back_of, front as front_of};
 
@@ -96,6 +96,19 @@ impl Piece {
         Piece {
             start: self.start,
             len: self.len + 1,
+            backward: false,
+        }
+    }
+
+    /// The piece with so many addresses behind its last. Only a piece that goes on to them grows so.
+    pub fn grown_by(self, count: u32) -> Piece
+        requires short { self.len + count < 2 ^ 32 }
+        requires within { self.start + self.len + count ≤ 2 ^ 32 }
+        ensures { result ≡ grown_by count self }
+    {
+        Piece {
+            start: self.start,
+            len: self.len + count,
             backward: false,
         }
     }

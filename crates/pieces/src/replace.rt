@@ -2,7 +2,7 @@
 
 ghost use Rattle.std.specs.Prelude.{◌≡◌, ◌≤◌, ◌<◌, ◌+◌, ◌++◌, ◌^◌, drop, length, take, IsTrue, IsFalse};
 ghost use Rattle.std.specs.Vec.{vec_capacity, vec_len};
-ghost use Rattle.pieces.specs.OneMore.{inserted, joined, joined_before, overwritten, overwritten_backward};
+ghost use Rattle.pieces.specs.OneMore.{inserted, joined, joined_before, overwritten, overwritten_backward, overwritten_span};
 ghost use Rattle.pieces.specs.Pieces.{Solid, total as total_of};
 ghost use Rattle.pieces.specs.Splitting.{IsHint, before, behind};
 
@@ -142,6 +142,43 @@ fn move_border(pieces: &mut Vec<Piece>, hint: Hint, place: u32, address: u32) ->
     pieces[index - 1] = last.grown();
     pieces[index] = next.back(1);
     true
+}
+
+/// Where the piece before a place goes on to the address, and the one that begins there has more addresses than one: moves the
+/// border between them by as many as it can, at most `count`, and says by how many.
+#[tactic(auto, using(crate::proofs::SpanLemmas::spans))]
+pub(crate) fn move_border_by(
+    pieces: &mut Vec<Piece>,
+    hint: Hint,
+    place: u32,
+    address: u32,
+    count: u32,
+) -> u32
+    requires hint { IsHint pieces.old.items hint.piece hint.begin }
+    requires place { place + count ≤ total_of pieces.old.items }
+    requires short { total_of pieces.old.items < 2 ^ 32 }
+    requires addresses { address + count < 2 ^ 32 }
+    requires solid { Solid pieces.old.items }
+    ensures within { result ≤ count }
+    ensures items { pieces.new.items ≡ overwritten_span result place address pieces.old.items }
+    ensures hint { IsHint pieces.new.items hint.piece (hint.begin + result) }
+    ensures short { hint.begin + result < 2 ^ 32 }
+    ensures length { length pieces.new.items ≡ length pieces.old.items }
+    ensures capacity { vec_capacity pieces.old ≤ vec_capacity pieces.new }
+{
+    let index = hint.piece;
+    if hint.begin != place || index == 0 || index == pieces.len() {
+        return 0;
+    }
+    let last = pieces[index - 1];
+    let next = pieces[index];
+    let most = count.min(next.len() - 1);
+    if most == 0 || !last.grows(address) {
+        return 0;
+    }
+    pieces[index - 1] = last.grown_by(most);
+    pieces[index] = next.back(most);
+    most
 }
 
 /// The same backward: the piece that ends at a place loses that address, and the one behind it grows in front.
