@@ -13,6 +13,7 @@ pub mod SavingLemmas
 pub mod StripLemmas
 pub mod LoadLemmas
 pub mod StretchLemmas
+pub mod RowLemmas
 pub mod BudgetLemmas
 pub mod LawLemmas
 pub mod RecordLemmas

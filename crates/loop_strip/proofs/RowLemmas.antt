@@ -1,6 +1,6 @@
 -- A row of a loop is its frames one by one.
 use Rattle.std.proofs.Common.{◌≡◌, ℕ, zero, suc, ◌+◌, ◌-◌, ◌≤◌, ◌<◌, Bool, true, false, List, [], ◌∷◌, ◌++◌, length, take, drop, get_or, replicate, map, refl, sym, ap, ap₂, subst, ◌∙◌, arith, IsTrue}
-use Rattle.std.proofs.lemmas.List.{length-take-le, ext_get_or, length-map}
+use Rattle.std.proofs.lemmas.List.{length-take-le, ext_get_or, get_or-take, get_or-drop, length-take, get_or-replicate, get_or_past, length-replicate}
 use Rattle.std.specs.Prelude.{⊤, ◌==◌, slice_set, slice_get, slice_index_or}
 use Rattle.sl_base.specs.Limits.{max_list_frames}
 use Rattle.sl_base.specs.Sounds.{Sound, silence}
@@ -16,6 +16,7 @@ use Rattle.looper_rules.specs.Loop.{Loop, Deck, Controls, is_writing, length_of,
 use Rattle.looper_rules.specs.LoopFrame.{ready, heard, heard_from, sound_at, new_frame, how_in, fits, with_input, wraps, goes_on, writes, frame_later}
 use Rattle.looper_rules.specs.LoopSpans.{loop_over, loop_heard_over}
 use Rattle.loop_tape.specs.Pools.{PoolOf}
+use Rattle.loop_tape.specs.Tapes.{at}
 use Rattle.layer_memory.specs.Seen.{Held, seen as seen_layers, reach}
 use Rattle.layer_memory.specs.Spans.{AllFit, WritesSpan, written_span}
 use Rattle.layer_memory.specs.Sharing.{IsShared}
@@ -140,3 +141,189 @@ pub loop_row_heard : (mode : Mode) (xs : List Sound) (reach : ℕ) (l : Loop Sou
     loop_heard_over xs reach l ≡ row_heard mode (current_list l.stack.layers) l.deck.pos xs
 loop_row_heard mode xs reach l is row fit =
     ap (loop_heard_over xs reach) (forward_same mode l is row.forward) ∙ row_sounds mode xs reach (current_list l.stack.layers) l row.over row.ahead (λ k le. refl) fit
+
+-- the frames of a row by their index
+written_length_of : (mode : Mode) (feedback : ℕ) (list : List Sound) (place : ℕ) (xs : List Sound) → length (row_written mode feedback list place xs) ≡ length xs
+written_length_of mode feedback list place [] = refl
+written_length_of mode feedback list place (x ∷ xs) = ap suc (written_length_of mode feedback list (place + 1) xs)
+
+heard_length_of : (mode : Mode) (list : List Sound) (place : ℕ) (xs : List Sound) → length (row_heard mode list place xs) ≡ length xs
+heard_length_of mode list place [] = refl
+heard_length_of mode list place (x ∷ xs) = ap suc (heard_length_of mode list (place + 1) xs)
+
+written_at : (mode : Mode) (feedback : ℕ) (list : List Sound) (place : ℕ) (xs : List Sound) (k : ℕ) → k < length xs → get_or (row_written mode feedback list place xs) k silence ≡ new_frame mode feedback (sound_at list (place + k)) (get_or xs k silence)
+written_at mode feedback list place [] k less = absurd (omega (arith, less))
+written_at mode feedback list place (x ∷ xs) zero less = let z : place + 0 ≡ place = omega arith in ap (λ n. new_frame mode feedback (sound_at list n) x) (sym z)
+written_at mode feedback list place (x ∷ xs) (suc k) less =
+    let z : place + 1 + k ≡ place + suc k = omega arith in
+    written_at mode feedback list (place + 1) xs k (omega (arith, less)) ∙ ap (λ n. new_frame mode feedback (sound_at list n) (get_or xs k silence)) z
+
+heard_at : (mode : Mode) (list : List Sound) (place : ℕ) (xs : List Sound) (k : ℕ) → k < length xs → get_or (row_heard mode list place xs) k silence ≡ heard_from mode list (place + k)
+heard_at mode list place [] k less = absurd (omega (arith, less))
+heard_at mode list place (x ∷ xs) zero less = let z : place + 0 ≡ place = omega arith in ap (λ n. heard_from mode list n) (sym z)
+heard_at mode list place (x ∷ xs) (suc k) less =
+    let z : place + 1 + k ≡ place + suc k = omega arith in
+    heard_at mode list (place + 1) xs k (omega (arith, less)) ∙ ap (λ n. heard_from mode list n) z
+
+over_old : (mode : Mode) (feedback : ℕ) (list : List Sound) (place : ℕ) (x : Sound) → WritesOver mode → new_frame mode feedback (heard_from mode list place) x ≡ new_frame mode feedback (sound_at list place) x
+over_old Overdubbing feedback list place x over = refl
+over_old Replacing feedback list place x over = refl
+over_old Substituting feedback list place x over = refl
+over_old _ feedback list place x over = absurd over
+
+-- what was heard of a list, and what is written, from frames by their index
+row_heard_is : (n : ℕ) (mode : Mode) (list : List Sound) (place : ℕ) (xs hs : List Sound) → n ≤ length xs → length xs ≡ length hs → ((k : ℕ) → k < length hs → get_or hs k silence ≡ heard_from mode list (place + k)) → take n hs ≡ row_heard mode list place (take n xs)
+row_heard_is n mode list place xs hs le same sounds =
+    let a = length-take-le n xs le in
+    let b = length-take-le n hs (omega (arith, le, same)) in
+    let c = heard_length_of mode list place (take n xs) in
+    ext_get_or silence (take n hs) (row_heard mode list place (take n xs)) (omega (arith, a, b, c))
+    (λ k less. get_or-take n hs k silence (omega (arith, less, b)) ∙ sounds k (omega (arith, less, b, le, same)) ∙ sym (heard_at mode list place (take n xs) k (omega (arith, less, a, b))))
+
+row_written_is : (n : ℕ) (mode : Mode) (feedback : ℕ) (list : List Sound) (place : ℕ) (xs hs ys : List Sound) → WritesOver mode → n ≤ length xs → length xs ≡ length hs → length ys ≡ length xs → ((k : ℕ) → k < length hs → get_or hs k silence ≡ heard_from mode list (place + k)) →
+    ((k : ℕ) → k < length xs → get_or ys k silence ≡ new_frame mode feedback (get_or hs k silence) (get_or xs k silence)) → take n ys ≡ row_written mode feedback list place (take n xs)
+row_written_is n mode feedback list place xs hs ys over le same long sounds news =
+    let a = length-take-le n xs le in
+    let b = length-take-le n ys (omega (arith, le, long)) in
+    let c = written_length_of mode feedback list place (take n xs) in
+    ext_get_or silence (take n ys) (row_written mode feedback list place (take n xs)) (omega (arith, a, b, c))
+    (λ k less. get_or-take n ys k silence (omega (arith, less, b)) ∙ news k (omega (arith, less, b, le))
+    ∙ ap (λ h. new_frame mode feedback h (get_or xs k silence)) (sounds k (omega (arith, less, b, le, same)))
+    ∙ over_old mode feedback list (place + k) (get_or xs k silence) over
+    ∙ ap (λ x. new_frame mode feedback (sound_at list (place + k)) x) (sym (get_or-take n xs k silence (omega (arith, less, b))))
+    ∙ sym (written_at mode feedback list place (take n xs) k (omega (arith, less, a, b))))
+
+-- a shorter row
+row_part : (mode : Mode) (n m : ℕ) (backward : Bool) (place len : ℕ) → n ≤ m → IsRow mode m backward place len → IsRow mode n backward place len
+row_part mode n m backward place len le r = let a = r.ahead in record { over = r.over; forward = r.forward; ahead = omega (arith, le, a) }
+
+-- what a row does to a strip
+row_seen : (ys : List Sound) (s : Parts) (h : Held) (p p' : PoolOf) → WritesSpan ys s.deck.pos s.layers h p p' → seen (strip_of (layers_of s h)) p' ≡ with_stack (written_span ys s.deck.pos (seen (strip_of s) p).stack) (seen (strip_of s) p)
+unfolding seen
+row_seen ys s h p p' w = ap (λ (t : Stack Sound). with_stack t (loop_map (at s.layers.tape p) (loop_of s))) w.seen
+
+row_fits : (ys zs : List Sound) (s : Parts) (h : Held) (p p' : PoolOf) → Owns (strip_of s) p → ys ≡ zs → WritesSpan ys s.deck.pos s.layers h p p' → AllFit (reach_in (strip_of s) p) zs (seen (strip_of s) p).deck.pos (seen (strip_of s) p).stack
+unfolding seen
+row_fits ys zs s h p p' o is w = subst (λ ts. AllFit (reach_in (strip_of s) p) ts s.deck.pos (seen_layers s.layers p)) is (subst (λ r. AllFit r ys s.deck.pos (seen_layers s.layers p)) (reaches s p o) w.fits)
+
+row_frames : (mode : Mode) (xs ys : List Sound) (s : Parts) (p : PoolOf) → ys ≡ row_written mode s.controls.feedback (current_list (seen_layers s.layers p).layers) s.deck.pos xs → ys ≡ row_written mode (seen (strip_of s) p).controls.feedback (current_list (seen (strip_of s) p).stack.layers) (seen (strip_of s) p).deck.pos xs
+unfolding seen
+row_frames mode xs ys s p is = is
+
+row_place : (mode : Mode) (n : ℕ) (s : Parts) (p : PoolOf) → IsRow mode n s.deck.backward s.deck.pos (length_of (loop_of s)) → IsRow mode n (seen (strip_of s) p).deck.backward (seen (strip_of s) p).deck.pos (length_of (seen (strip_of s) p))
+row_place mode n s p h =
+    let l = seen (strip_of s) p
+    in let same : length_of (loop_of s) ≡ length_of l = sym (length-mapped _ (loop_of s)) ∙ ap length_of (sym (seen-is (strip_of s) p))
+    in subst (λ m. IsRow mode n l.deck.backward l.deck.pos m) same
+    (subst (λ (d : Deck). IsRow mode n d.backward d.pos (length_of (loop_of s))) (sym (seen_deck (strip_of s) p)) h)
+
+did_rowed : (mode : Mode) (xs ys : List Sound) (s s' : Parts) (h : Held) (p p' : PoolOf) → Owns (strip_of s) p → s.deck.mode ≡ mode → IsRow mode (length xs) s.deck.backward s.deck.pos (length_of (loop_of s)) → ys ≡ row_written mode s.controls.feedback (current_list (seen_layers s.layers p).layers) s.deck.pos xs →
+    WritesSpan ys s.deck.pos s.layers h p p' → IsShared h → s'.layers.tape ≡ h.tape → IsShared s'.layers → loop_of s' ≡ at_place (s.deck.pos + length xs) (loop_of (layers_of s h)) → Did (loop_over xs) (strip_of s) (strip_of s') p p'
+did_rowed mode xs ys s s' h p p' o is row yis w shared tape shared' to =
+    let l = seen (strip_of s) p
+    in let deck = seen_deck (strip_of s) p
+    in let first : Did (λ reach k. with_stack (written_span ys s.deck.pos k.stack) k) (strip_of s) (strip_of (layers_of s h)) p p' = did_kept (λ reach k. with_stack (written_span ys s.deck.pos k.stack) k) s (layers_of s h) p p' o w.keeps shared (row_seen ys s h p p' w)
+    in let second : Did (λ reach k. at_place (s.deck.pos + length xs) k) (strip_of (layers_of s h)) (strip_of s') p' p' = did_as (λ reach k. at_place (s.deck.pos + length xs) k) (λ reach k. at_place (s.deck.pos + length xs) k) (layers_of s h) s' p' first.owns tape shared' (λ f r k. refl) to
+    in let over : loop_over xs (reach_in (strip_of s) p) l ≡ at_place (l.deck.pos + length xs) (with_stack (written_span (row_written mode l.controls.feedback (current_list l.stack.layers) l.deck.pos xs) l.deck.pos l.stack) l) =
+    loop_row mode xs (reach_in (strip_of s) p) l (ap (λ (d : Deck). d.mode) deck ∙ is) (row_place mode (length xs) s p row) (row_fits ys _ s h p p' o (row_frames mode xs ys s p yis) w)
+    in let same : at_place (s.deck.pos + length xs) (with_stack (written_span ys s.deck.pos l.stack) l) ≡ loop_over xs (reach_in (strip_of s) p) l =
+    ap (λ (d : Deck). at_place (d.pos + length xs) (with_stack (written_span ys d.pos l.stack) l)) (sym deck)
+    ∙ ap (λ zs. at_place (l.deck.pos + length xs) (with_stack (written_span zs l.deck.pos l.stack) l)) (row_frames mode xs ys s p yis)
+    ∙ sym over
+    in did_also same (did_then first second)
+
+-- the first of the frames of a row that was offered
+pub did_row : (n : ℕ) (mode : Mode) (xs hs ys : List Sound) (s s' : Parts) (h : Held) (p p' : PoolOf) → Owns (strip_of s) p → s.deck.mode ≡ mode → IsRow mode (length xs) s.deck.backward s.deck.pos (length_of (loop_of s)) → n ≤ length xs → length xs ≡ length hs → length ys ≡ length xs →
+    ((k : ℕ) → k < length hs → get_or hs k silence ≡ heard_from mode (current_list (seen_layers s.layers p).layers) (s.deck.pos + k)) → ((k : ℕ) → k < length xs → get_or ys k silence ≡ new_frame mode s.controls.feedback (get_or hs k silence) (get_or xs k silence)) →
+    WritesSpan (take n ys) s.deck.pos s.layers h p p' → IsShared h → s'.layers.tape ≡ h.tape → IsShared s'.layers → loop_of s' ≡ at_place (s.deck.pos + n) (loop_of (layers_of s h)) → Did (loop_over (take n xs)) (strip_of s) (strip_of s') p p'
+did_row n mode xs hs ys s s' h p p' o is row le same long sounds news w shared tape shared' to =
+    let count = length-take-le n xs le
+    in let list = current_list (seen_layers s.layers p).layers
+    in let part = row_part mode (length (take n xs)) (length xs) s.deck.backward s.deck.pos (length_of (loop_of s)) (omega (arith, count, le)) row
+    in did_rowed mode (take n xs) (take n ys) s s' h p p' o is part (row_written_is n mode s.controls.feedback list s.deck.pos xs hs ys row.over le same long sounds news) w shared tape shared'
+    (to ∙ ap (λ m. at_place (s.deck.pos + m) (loop_of (layers_of s h))) (sym count))
+
+pub heard_row : (n : ℕ) (mode : Mode) (xs hs ys : List Sound) (s : Parts) (h : Held) (p p' : PoolOf) → Owns (strip_of s) p → s.deck.mode ≡ mode → IsRow mode (length xs) s.deck.backward s.deck.pos (length_of (loop_of s)) → n ≤ length xs → length xs ≡ length hs → length ys ≡ length xs →
+    ((k : ℕ) → k < length hs → get_or hs k silence ≡ heard_from mode (current_list (seen_layers s.layers p).layers) (s.deck.pos + k)) → ((k : ℕ) → k < length xs → get_or ys k silence ≡ new_frame mode s.controls.feedback (get_or hs k silence) (get_or xs k silence)) →
+    WritesSpan (take n ys) s.deck.pos s.layers h p p' → take n hs ≡ loop_heard_over (take n xs) (reach_in (strip_of s) p) (seen (strip_of s) p)
+heard_row n mode xs hs ys s h p p' o is row le same long sounds news w =
+    let l = seen (strip_of s) p
+    in let deck = seen_deck (strip_of s) p
+    in let count = length-take-le n xs le
+    in let list = current_list (seen_layers s.layers p).layers
+    in let part = row_part mode (length (take n xs)) (length xs) s.deck.backward s.deck.pos (length_of (loop_of s)) (omega (arith, count, le)) row
+    in let yis = row_written_is n mode s.controls.feedback list s.deck.pos xs hs ys row.over le same long sounds news
+    in row_heard_is n mode list s.deck.pos xs hs le same sounds
+    ∙ ap (λ t. row_heard mode (current_list t.layers) s.deck.pos (take n xs)) (sym (seen_stack s p))
+    ∙ ap (λ (d : Deck). row_heard mode (current_list l.stack.layers) d.pos (take n xs)) (sym deck)
+    ∙ sym (loop_row_heard mode (take n xs) (reach_in (strip_of s) p) l (ap (λ (d : Deck). d.mode) deck ∙ is) (row_place mode (length (take n xs)) s p part) (row_fits (take n ys) _ s h p p' o (row_frames mode (take n xs) (take n ys) s p yis) w))
+
+pub row_inside : (mode : Mode) (s : Parts) → IsWhole s → s.deck.mode ≡ mode → WritesOver mode → s.deck.pos < length_of (loop_of s)
+row_inside Overdubbing s w is over = inside Overdubbing s w is tt tt
+row_inside Replacing s w is over = inside Replacing s w is tt tt
+row_inside Substituting s w is over = inside Substituting s w is tt tt
+row_inside _ s w is over = absurd over
+
+pub row_open : (mode : Mode) (s : Parts) → IsWhole s → s.deck.mode ≡ mode → WritesOver mode → IsTrue s.layers.writing
+row_open Overdubbing s w is over = subst (λ b. IsTrue b) (sym (w.writing ∙ ap is_writing is)) refl
+row_open Replacing s w is over = subst (λ b. IsTrue b) (sym (w.writing ∙ ap is_writing is)) refl
+row_open Substituting s w is over = subst (λ b. IsTrue b) (sym (w.writing ∙ ap is_writing is)) refl
+row_open _ s w is over = absurd over
+
+pub row_follows : (mode : Mode) (s : Parts) → IsWhole s → s.deck.mode ≡ mode → WritesOver mode → s.deck.backward ≡ false → Follows s.layers.stack.run Forward s.deck.pos
+row_follows Overdubbing s w is over forward = follows_for Overdubbing s Forward w is refl (ap (λ b. how_in Overdubbing b) (sym forward))
+row_follows Replacing s w is over forward = follows_for Replacing s Forward w is refl (ap (λ b. how_in Replacing b) (sym forward))
+row_follows Substituting s w is over forward = follows_for Substituting s Forward w is refl (ap (λ b. how_in Substituting b) (sym forward))
+row_follows _ s w is over forward = absurd over
+
+pub row_writing : (mode now : Mode) → now ≡ mode → WritesOver mode → true ≡ is_writing now
+row_writing Overdubbing now is over = sym (ap is_writing is)
+row_writing Replacing now is over = sym (ap is_writing is)
+row_writing Substituting now is over = sym (ap is_writing is)
+row_writing _ now is over = absurd over
+
+pub ruleset rows = (row_inside, row_open, row_follows, whole_over)
+
+-- what a span of the list is, heard in each mode
+span_at : (list : List Sound) (place n k : ℕ) → k < n → get_or (take n (drop place list)) k silence ≡ sound_at list (place + k)
+span_at list place n k less = get_or-take n (drop place list) k silence less ∙ get_or-drop place list k silence
+
+pub hear_over : (list hs : List Sound) (place n k : ℕ) → hs ≡ take n (drop place list) → k < length hs → get_or hs k silence ≡ sound_at list (place + k)
+hear_over list hs place n k is less =
+    let long = ap length is in
+    let few = length-take n (drop place list) in
+    ap (λ ts. get_or ts k silence) is ∙ span_at list place n k (omega (arith, less, long, few))
+
+pub hear_none : (mode : Mode) (list : List Sound) (n place len k m : ℕ) (backward : Bool) → IsRow mode m backward place len → (mode ≡ Overdubbing → ⊥) → (mode ≡ Substituting → ⊥) → get_or (replicate n silence) k silence ≡ heard_from mode list (place + k)
+hear_none Overdubbing list n place len k m backward row a b = absurd (a refl)
+hear_none Substituting list n place len k m backward row a b = absurd (b refl)
+hear_none Replacing list n place len k m backward row a b = grind (arith, get_or-replicate n k silence silence, get_or_past (replicate n silence) k silence, length-replicate n silence)
+hear_none _ list n place len k m backward row a b = absurd row.over
+
+pub ruleset hears = (hear_over, hear_none)
+
+-- a frame alone, where a row had none
+pub did_after : (xs : List Sound) (n : ℕ) (s s1 s2 : Parts) (p p1 p2 : PoolOf) → n ≡ 0 → Did (loop_over (take n xs)) (strip_of s) (strip_of s1) p p1 → Did (loop_over (take 1 xs)) (strip_of s1) (strip_of s2) p1 p2 → Did (loop_over (take 1 xs)) (strip_of s) (strip_of s2) p p2
+did_after xs n s s1 s2 p p1 p2 none first second =
+    let still : Did (loop_over (take 0 xs)) (strip_of s) (strip_of s1) p p1 = subst (λ k. Did (loop_over (take k xs)) (strip_of s) (strip_of s1) p p1) none first
+    in did_then still second
+
+pub heard_after : (xs hs : List Sound) (n : ℕ) (s s1 : Parts) (p p1 : PoolOf) → n ≡ 0 → Did (loop_over (take n xs)) (strip_of s) (strip_of s1) p p1 → hs ≡ loop_heard_over (take 1 xs) (reach_in (strip_of s1) p1) (seen (strip_of s1) p1) → hs ≡ loop_heard_over (take 1 xs) (reach_in (strip_of s) p) (seen (strip_of s) p)
+heard_after xs hs n s s1 p p1 none first sound =
+    let still : Did (loop_over (take 0 xs)) (strip_of s) (strip_of s1) p p1 = subst (λ k. Did (loop_over (take k xs)) (strip_of s) (strip_of s1) p p1) none first
+    in sound ∙ ap₂ (λ r l. loop_heard_over (take 1 xs) r l) still.reach still.seen
+
+-- the first frames of a part of the input
+pub taken_twice : (xs : List Sound) (n m : ℕ) → n ≤ m → take n (take m xs) ≡ take n xs
+taken_twice xs zero m le = refl
+taken_twice [] (suc n) zero le = refl
+taken_twice [] (suc n) (suc m) le = refl
+taken_twice (x ∷ xs) (suc n) zero le = absurd (omega (arith, le))
+taken_twice (x ∷ xs) (suc n) (suc m) le = ap (λ ts. x ∷ ts) (taken_twice xs n m (omega (arith, le)))
+
+pub taken_part : (n m : ℕ) (part rest new : List Sound) → n ≤ length part → new ≡ part ++ rest → take n new ≡ take n part
+taken_part zero m part rest new le is = refl
+taken_part (suc n) m [] rest new le is = absurd (omega (arith, le))
+taken_part (suc n) m (y ∷ ys) rest new le is = ap (take (suc n)) is ∙ ap (λ ts. y ∷ ts) (taken_part n m ys rest (ys ++ rest) (omega (arith, le)) refl)
+
+pub ruleset takes = (did_after, heard_after, taken_twice, taken_part)

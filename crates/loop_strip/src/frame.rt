@@ -66,7 +66,7 @@ fn mix_side(old: i32, feedback: u16, side: i32) -> i32
 }
 
 /// The old frame scaled, with another on top.
-fn mix(old: &Frame, feedback: u16, frame: &Frame) -> Frame
+pub(crate) fn mix(old: &Frame, feedback: u16, frame: &Frame) -> Frame
     requires { feedback ≤ 1000 }
     ensures { result ≡ clamped_sound (summed (scaled_sound old.now feedback) frame.now) }
 {

@@ -29,6 +29,7 @@ mod opening;
 mod parts;
 mod press;
 mod quiet;
+mod rows;
 mod run;
 mod saving;
 mod stretches;

@@ -170,7 +170,55 @@ impl Parts {
         self.layers.shared();
     }
 
-    /// The next stretch of these frames, or the next frame alone; how many they are.
+    /// The next frame alone.
+    fn take_one(&mut self, pool: &mut Pool, input: &[Frame], heard: &mut [Frame]) -> usize
+        requires whole { IsWhole self.old }
+        requires owns { Owns (strip_of self.old) pool.old }
+        requires some { 1 ≤ length input.now }
+        requires same_length { length input.now ≡ length heard.old }
+        ensures one { result ≡ 1 }
+        ensures did { Did (loop_over (take 1 input.now)) (strip_of self.old) (strip_of self.new) pool.old pool.new }
+        ensures heard { take 1 heard.new ≡ loop_heard_over (take 1 input.now) (reach_in (strip_of self.old) pool.old) (seen (strip_of self.old) pool.old) }
+        ensures same { length heard.new ≡ length heard.old }
+        ensures whole { IsWhole self.new }
+    {
+        heard[0] = self.frame(pool, &input[0]);
+        1
+    }
+
+    /// The next row of these frames, as far as it can be written at once, or the next frame alone; how many they are.
+    #[tactic(auto, using(crate::proofs::RowLemmas::takes))]
+    fn take_row(
+        &mut self,
+        pool: &mut Pool,
+        mode: Mode,
+        input: &[Frame],
+        heard: &mut [Frame],
+    ) -> usize
+        requires whole { IsWhole self.old }
+        requires owns { Owns (strip_of self.old) pool.old }
+        requires is { self.old.deck.mode ≡ mode }
+        requires some { 1 ≤ length input.now }
+        requires same_length { length input.now ≡ length heard.old }
+        ensures some { 1 ≤ result }
+        ensures within { result ≤ length input.now }
+        ensures did { Did (loop_over (take result input.now)) (strip_of self.old) (strip_of self.new) pool.old pool.new }
+        ensures heard { take result heard.new ≡ loop_heard_over (take result input.now) (reach_in (strip_of self.old) pool.old) (seen (strip_of self.old) pool.old) }
+        ensures same { length heard.new ≡ length heard.old }
+        ensures whole { IsWhole self.new }
+    {
+        let row = self.row_in(mode, input) as usize;
+        if row == 0 {
+            return self.take_one(pool, input, heard);
+        }
+        let done = self.pass_row(pool, mode, &input[..row], &mut heard[..row]);
+        if done == 0 {
+            return self.take_one(pool, input, heard);
+        }
+        done
+    }
+
+    /// The next stretch or row of these frames, or the next frame alone; how many they are.
     pub(crate) fn take_some(
         &mut self,
         pool: &mut Pool,
@@ -191,8 +239,7 @@ impl Parts {
         let mode = self.deck.mode;
         let count = self.stretch_in(mode, input) as usize;
         if count == 0 {
-            heard[0] = self.frame(pool, &input[0]);
-            return 1;
+            return self.take_row(pool, mode, input, heard);
         }
         self.pass_stretch(pool, mode, &input[..count], &mut heard[..count]);
         count
