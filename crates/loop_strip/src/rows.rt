@@ -22,6 +22,9 @@ use sl_commands::Mode;
 /// The frames of the longest row.
 const MOST_IN_ROW: usize = 256;
 
+/// Fewer frames than these are taken one by one, which is as fast.
+const LEAST_IN_ROW: u32 = 4;
+
 /// The old frames scaled, each with another on top.
 #[tactic(auto, using(crate::proofs::RowLemmas::rows))]
 fn mix_row(feedback: u16, heard: &[Frame], input: &[Frame], next: &mut [Frame])
@@ -53,7 +56,7 @@ impl Parts {
         let sizes = self.layers.sizes();
         let ahead = places_ahead(false, self.deck.pos, sizes.length);
         let most = (input.len().min(MOST_IN_ROW) as u32).min(ahead);
-        if most == 0 {
+        if most < LEAST_IN_ROW {
             return 0;
         }
         self.layers.span_ahead(self.deck.pos, most)
