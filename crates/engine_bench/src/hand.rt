@@ -1,4 +1,5 @@
-//! The same work by hand: flat lists, period by period, each loop over its frames, in the same arithmetic.
+//! The same work by hand: flat lists, period by period, each loop over its frames, in the same
+//! arithmetic.
 
 ghost use Rattle.std.specs.Prelude.{◌≤◌};
 
@@ -154,7 +155,8 @@ impl Session {
         sum
     }
 
-    /// The least of a time so far and of each stretch of frames, in thousandths of a nanosecond for a frame of a loop.
+    /// The least of a time so far and of each stretch of frames, in thousandths of a nanosecond for
+    /// a frame of a loop.
     fn timed(&mut self, rt: &HostRuntime, best: u64, writing: usize) -> u64 {
         let period = self.output.len().max(1);
         let periods = STRETCH as usize / period;

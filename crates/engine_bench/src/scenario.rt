@@ -6,7 +6,8 @@ use crate::clock::tell;
 use crate::session::{FRAMES, STRETCH, Session};
 use sl_commands::{Command, Control, Target, Verb};
 
-/// So many layers are laid over the lists that are cut, one behind the other, each in five stretches to and fro.
+/// So many layers are laid over the lists that are cut, one behind the other, each in five
+/// stretches to and fro.
 const CUTS: u32 = 56;
 
 /// All loops play.
@@ -22,8 +23,9 @@ pub fn playing(rt: &HostRuntime, loops: u8, period: u32, times: u32) -> Option<(
     told(rt, &session, "playing", best)
 }
 
-/// The first loop plays or overdubs, the others play, and in the last one a verb waits for the first loop to come round.
-/// Nothing is told of a single loop that overdubs: the verb that waits ends the overdub.
+/// The first loop plays or overdubs, the others play, and in the last one a verb waits for the
+/// first loop to come round. Nothing is told of a single loop that overdubs: the verb that waits
+/// ends the overdub.
 pub fn waiting(
     rt: &HostRuntime,
     loops: u8,

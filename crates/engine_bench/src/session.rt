@@ -110,7 +110,8 @@ impl Session {
         }
     }
 
-    /// The least of a time so far and of each stretch of so many frames, in thousandths of a nanosecond for a frame of a loop.
+    /// The least of a time so far and of each stretch of so many frames, in thousandths of a
+    /// nanosecond for a frame of a loop.
     pub fn timed(&mut self, rt: &HostRuntime, best: u64, frames: u32, loops: u8) -> u64 {
         let mut least_time = best;
         for _ in 0..frames / STRETCH {

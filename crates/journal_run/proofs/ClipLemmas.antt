@@ -14,7 +14,8 @@ use Rattle.looper_rules.specs.Run.{Entered, entered, due, later, RunSoFar, begun
 use Rattle.journal_run.specs.Clipping.{clipped, all_clipped}
 
 -- what a command does has nothing to do with the entry's own frame
-performed-clipped : (count frame : ℕ) (c : Command) (e : Entry) (l : Looper) → performed c frame (clipped count e) l ≡ performed c frame e l
+performed-clipped : (count frame : ℕ) (c : Command) (e : Entry) (l : Looper) →
+    performed c frame (clipped count e) l ≡ performed c frame e l
 performed-clipped count frame (Down target verb) e l = refl
 performed-clipped count frame (Up target verb) e l = refl
 performed-clipped count frame (Hit target verb) e l = refl
@@ -27,7 +28,8 @@ performed-clipped count frame (SaveSession name) e l = refl
 performed-clipped count frame (Release target outcome) e l = refl
 performed-clipped count frame Quit e l = refl
 
-replied-clipped : (count : ℕ) (c : Command) (e : Entry) (l : Looper) → reply_of c (clipped count e) l ≡ reply_of c e l
+replied-clipped : (count : ℕ) (c : Command) (e : Entry) (l : Looper) →
+    reply_of c (clipped count e) l ≡ reply_of c e l
 replied-clipped count (Down target verb) e l = refl
 replied-clipped count (Up target verb) e l = refl
 replied-clipped count (Hit target verb) e l = refl
@@ -40,19 +42,25 @@ replied-clipped count (SaveSession name) e l = refl
 replied-clipped count (Release target outcome) e l = refl
 replied-clipped count Quit e l = refl
 
-pub applied-clipped : (count frame : ℕ) (e : Entry) (l : Looper) → applied frame (clipped count e) l ≡ applied frame e l
-applied-clipped count frame e l = ap (λ after. cond (is_taken e l) after l) (performed-clipped count frame e.command e l)
+pub applied-clipped : (count frame : ℕ) (e : Entry) (l : Looper) →
+    applied frame (clipped count e) l ≡ applied frame e l
+applied-clipped count frame e l =
+    ap (λ after. cond (is_taken e l) after l) (performed-clipped count frame e.command e l)
 
 pub reply-clipped : (count : ℕ) (e : Entry) (l : Looper) → reply (clipped count e) l ≡ reply e l
-reply-clipped count e l = ap (λ (r : Option Reply). if is_taken e l then r else None) (replied-clipped count e.command e l)
+reply-clipped count e l = ap (λ (r : Option Reply). if is_taken e l then r else None)
+    (replied-clipped count e.command e l)
 
 -- entries that are entered at one frame
-entered-clipped : (count frame : ℕ) (es : List Entry) (l : Looper) → entered frame (all_clipped count es) l ≡ entered frame es l
+entered-clipped : (count frame : ℕ) (es : List Entry) (l : Looper) →
+    entered frame (all_clipped count es) l ≡ entered frame es l
 entered-clipped count frame [] l = refl
 entered-clipped count frame (e ∷ es) l =
     let after = applied-clipped count frame e l in
-    let rest : entered frame (all_clipped count es) (applied frame (clipped count e) l) ≡ entered frame es (applied frame e l) =
-    ap (entered frame (all_clipped count es)) after ∙ entered-clipped count frame es (applied frame e l) in
+    let rest : entered frame (all_clipped count es) (applied frame (clipped count e) l) ≡ entered
+    frame es (applied frame e l) =
+    ap (entered frame (all_clipped count es)) after
+    ∙ entered-clipped count frame es (applied frame e l) in
     ap₂ (λ (answer : Option Reply) (r : Entered). before answer r) (reply-clipped count e l) rest
   where
     before : Option Reply → Entered → Entered
@@ -75,28 +83,35 @@ due_so count frame at before = by_test (nat_le at frame) refl
         by_bool false is = refl
 
     by_test : (b : Bool) → nat_le at frame ≡ b → nat_le (min at count) frame ≡ b
-    by_test true is = let early : at ≤ frame = leb-true at frame is in le-leb (min at count) frame (omega arith)
+    by_test true is = let early : at ≤ frame = leb-true at frame is in
+        le-leb (min at count) frame (omega arith)
     by_test false is = not_yet (λ all. false≢true (sym is ∙ le-leb at frame (omega (arith, all))))
 
-due-clipped : (count frame : ℕ) (es : List Entry) → frame < count → due frame (all_clipped count es) ≡ all_clipped count (due frame es)
+due-clipped : (count frame : ℕ) (es : List Entry) → frame < count →
+    due frame (all_clipped count es) ≡ all_clipped count (due frame es)
 due-clipped count frame [] before = refl
 due-clipped count frame (e ∷ es) before =
-    ap (λ b. cond b (clipped count e ∷ due frame (all_clipped count es)) []) (due_so count frame e.frame before)
+    ap (λ b. cond b (clipped count e ∷ due frame (all_clipped count es)) [])
+    (due_so count frame e.frame before)
     ∙ by_test (nat_le e.frame frame) (due-clipped count frame es before)
   where
     by_test : (b : Bool) → due frame (all_clipped count es) ≡ all_clipped count (due frame es) →
-        cond b (clipped count e ∷ due frame (all_clipped count es)) [] ≡ all_clipped count (cond b (e ∷ due frame es) [])
+        cond b (clipped count e ∷ due frame (all_clipped count es)) [] ≡ all_clipped count
+        (cond b (e ∷ due frame es) [])
     by_test true rest = ap (λ ds. clipped count e ∷ ds) rest
     by_test false rest = refl
 
-later-clipped : (count frame : ℕ) (es : List Entry) → frame < count → later frame (all_clipped count es) ≡ all_clipped count (later frame es)
+later-clipped : (count frame : ℕ) (es : List Entry) → frame < count →
+    later frame (all_clipped count es) ≡ all_clipped count (later frame es)
 later-clipped count frame [] before = refl
 later-clipped count frame (e ∷ es) before =
-    ap (λ b. cond b (later frame (all_clipped count es)) (clipped count e ∷ all_clipped count es)) (due_so count frame e.frame before)
+    ap (λ b. cond b (later frame (all_clipped count es)) (clipped count e ∷ all_clipped count es))
+    (due_so count frame e.frame before)
     ∙ by_test (nat_le e.frame frame) (later-clipped count frame es before)
   where
     by_test : (b : Bool) → later frame (all_clipped count es) ≡ all_clipped count (later frame es) →
-        cond b (later frame (all_clipped count es)) (clipped count e ∷ all_clipped count es) ≡ all_clipped count (cond b (later frame es) (e ∷ es))
+        cond b (later frame (all_clipped count es)) (clipped count e ∷ all_clipped count es)
+        ≡ all_clipped count (cond b (later frame es) (e ∷ es))
     by_test true rest = rest
     by_test false rest = refl
 
@@ -104,24 +119,39 @@ later-clipped count frame (e ∷ es) before =
 abbrev left_clipped : ℕ → RunSoFar → RunSoFar
 left_clipped count b = record b { left = all_clipped count b.left }
 
-begun-clipped : (count frame : ℕ) (es : List Entry) (xs : List Sound) (l : Looper) → frame + length xs ≡ count →
+begun-clipped : (count frame : ℕ) (es : List Entry) (xs : List Sound) (l : Looper) →
+    frame + length xs ≡ count →
     begun frame (all_clipped count es) xs l ≡ left_clipped count (begun frame es xs l)
 begun-clipped count frame es [] l all = refl
 begun-clipped count frame es (x ∷ xs) l all =
     let before : frame < count = omega arith in
     let same : entered frame (due frame (all_clipped count es)) l ≡ entered frame (due frame es) l =
-    ap (λ ds. entered frame ds l) (due-clipped count frame es before) ∙ entered-clipped count frame (due frame es) l in
+    ap (λ ds. entered frame ds l) (due-clipped count frame es before)
+    ∙ entered-clipped count frame (due frame es) l in
     ap₂ (λ (n : Entered) (ls : List Entry). go n ls) same (later-clipped count frame es before)
-    ∙ ap (λ (b : RunSoFar). begun_before (entered frame (due frame es) l) (framed frame x (entered frame (due frame es) l).looper).output b)
-    (begun-clipped count (frame + 1) (later frame es) xs (framed frame x (entered frame (due frame es) l).looper).looper (omega (arith, all)))
+    ∙ ap (λ (b : RunSoFar). begun_before (entered frame (due frame es) l)
+    (framed frame x (entered frame (due frame es) l).looper).output b)
+    (begun-clipped count (frame + 1) (later frame es) xs
+    (framed frame x (entered frame (due frame es) l).looper).looper (omega (arith, all)))
   where
     go : Entered → List Entry → RunSoFar
-    go n ls = begun_before n (framed frame x n.looper).output (begun (frame + 1) ls xs (framed frame x n.looper).looper)
+    go n ls = begun_before n (framed frame x n.looper).output
+        (begun (frame + 1) ls xs (framed frame x n.looper).looper)
 
-pub run-clipped : (es : List Entry) (xs : List Sound) (l : Looper) → run (all_clipped (length xs) es) xs l ≡ run es xs l
+pub run-clipped : (es : List Entry) (xs : List Sound) (l : Looper) →
+    run (all_clipped (length xs) es) xs l ≡ run es xs l
 run-clipped es xs l =
-    ap (ended (length xs)) (begun-clipped (length xs) 0 es xs l (let all : 0 + length xs ≡ length xs = omega arith in all))
-    ∙ ap (λ (n : Entered). last (begun 0 es xs l) n) (entered-clipped (length xs) (length xs) (begun 0 es xs l).left (begun 0 es xs l).looper)
+    ap (ended (length xs))
+    (begun-clipped (length xs) 0 es xs l (let all : 0 + length xs ≡ length xs = omega arith in
+    all))
+    ∙ ap (λ (n : Entered). last (begun 0 es xs l) n)
+    (entered-clipped (length xs) (length xs) (begun 0 es xs l).left (begun 0 es xs l).looper)
   where
     last : RunSoFar → Entered → Ran
-    last b n = record { output = b.output; replies = b.replies ++ n.replies; saves = b.saves ++ n.saves; looper = n.looper }
+    last b n = record {
+      output = b.output;
+      replies = b.replies ++ n.replies;
+      saves =
+          b.saves ++ n.saves;
+      looper = n.looper;
+    }

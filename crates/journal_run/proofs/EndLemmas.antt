@@ -46,8 +46,10 @@ begins_in_step b =
 
 -- a run before all entries and frames
 pub begin_come :
-    {P : Type 0} (k : Keeper P) (b : Beginning) (es : List Entry) (input : InputOf) (start : P) (saver : SaverOf) (e : EngineOf) (out text : List ℕ) (replies : ℕ) →
-    e ≡ first_engine b → saver ≡ record { rate = b.settings.rate; saving = None } → out ≡ head_of input → text ≡ [] → replies ≡ 0 →
+    {P : Type 0} (k : Keeper P) (b : Beginning) (es : List Entry) (input : InputOf) (start : P)
+    (saver : SaverOf) (e : EngineOf) (out text : List ℕ) (replies : ℕ) →
+    e ≡ first_engine b → saver ≡ record { rate = b.settings.rate; saving = None } →
+    out ≡ head_of input → text ≡ [] → replies ≡ 0 →
     HasCome k b es input start 0 0 start saver e out text replies
 begin_come k b es input start saver e out text replies is idle head none zero_is =
     subst (λ f. HasCome k b es input start 0 0 start saver f out text replies) (sym is) (record {
@@ -72,9 +74,17 @@ all_taken xs = take_all (length xs) xs (omega arith)
 
 -- the run that has come to its end is the run
 ran_to_end :
-    {P : Type 0} (k : Keeper P) (b : Beginning) (es : List Entry) (input : InputOf) (start : P) (now : P) (saver : SaverOf) (e : EngineOf) (out text : List ℕ) (replies : ℕ) →
-    (come : HasCome k b es input start (length input.frames) (length es) now saver e out text replies) →
-    ran_over es input (first_looper b) ≡ record { output = come.so_far.output; replies = come.so_far.replies; saves = come.so_far.saves; looper = e.looper }
+    {P : Type 0} (k : Keeper P) (b : Beginning) (es : List Entry) (input : InputOf) (start : P)
+    (now : P) (saver : SaverOf) (e : EngineOf) (out text : List ℕ) (replies : ℕ) →
+    (come : HasCome k b es input start (length input.frames) (length es) now saver e out text
+    replies) →
+    ran_over es input (first_looper b) ≡ record {
+      output = come.so_far.output;
+      replies =
+          come.so_far.replies;
+      saves = come.so_far.saves;
+      looper = e.looper;
+    }
 ran_to_end k b es input start now saver e out text replies come =
     sym (run-clipped es input.frames (first_looper b))
     ∙ ap₂ (λ (fs : List Entry) (xs : List Sound). run fs xs (first_looper b))
@@ -84,65 +94,103 @@ ran_to_end k b es input start now saver e out text replies come =
 
 -- OUT at the end
 pub out_at_end :
-    {P : Type 0} (k : Keeper P) (b : Beginning) (es : List Entry) (input : InputOf) (start : P) (now : P) (saver : SaverOf) (e : EngineOf) (out text whole : List ℕ) (replies : ℕ) →
+    {P : Type 0} (k : Keeper P) (b : Beginning) (es : List Entry) (input : InputOf) (start : P)
+    (now : P) (saver : SaverOf) (e : EngineOf) (out text whole : List ℕ) (replies : ℕ) →
     HasCome k b es input start (length input.frames) (length es) now saver e out text replies →
     whole ≡ out ++ padding (samples_size (length input.frames) input.channels input.bits) →
-    whole ≡ wav_text (ran_over es input (first_looper b)).output input.channels input.bits input.rate
+    whole ≡ wav_text (ran_over es input (first_looper b)).output input.channels input.bits
+    input.rate
 out_at_end k b es input start now saver e out text whole replies come whole_is =
     let ran = ran_over es input (first_looper b) in
-    let same : come.so_far.output ≡ ran.output = ap (λ (r : Ran). r.output) (sym (ran_to_end k b es input start now saver e out text replies come)) in
-    let size : length input.frames ≡ length ran.output = sym (length-run_output es input.frames (first_looper b)) in
+    let same : come.so_far.output ≡ ran.output = ap (λ (r : Ran). r.output)
+    (sym (ran_to_end k b es input start now saver e out text replies come)) in
+    let size : length input.frames ≡ length ran.output =
+    sym (length-run_output es input.frames (first_looper b)) in
     let made : List ℕ = samples input.channels input.bits ran.output in
     whole_is
-    ∙ ap (λ (o : List ℕ). o ++ padding (samples_size (length input.frames) input.channels input.bits)) (come.heard ∙ ap (λ (fs : List Sound). head_of input ++ samples input.channels input.bits fs) same)
-    ∙ append_assoc (head_of input) made (padding (samples_size (length input.frames) input.channels input.bits))
-    ∙ ap (λ n. wav_header (samples_size n input.channels input.bits) input.channels input.bits input.rate ++ (made ++ padding (samples_size n input.channels input.bits))) size
+    ∙ ap (λ (o : List ℕ). o
+    ++ padding (samples_size (length input.frames) input.channels input.bits))
+    (come.heard ∙ ap (λ (fs : List Sound). head_of input ++ samples input.channels input.bits fs)
+    same)
+    ∙ append_assoc (head_of input) made
+    (padding (samples_size (length input.frames) input.channels input.bits))
+    ∙ ap (λ n. wav_header (samples_size n input.channels input.bits) input.channels input.bits
+    input.rate ++ (made ++ padding (samples_size n input.channels input.bits))) size
 
 -- the text at the end
 pub text_at_end :
-    {P : Type 0} (k : Keeper P) (b : Beginning) (es : List Entry) (input : InputOf) (start : P) (now : P) (saver : SaverOf) (e : EngineOf) (out text whole : List ℕ) (replies : ℕ) →
-    IsPlayable b es input → HasCome k b es input start (length input.frames) (length es) now saver e out text replies →
-    whole ≡ text ++ numbers_line (length input.frames) (length es) replies e.looper.saves (refused_in e.looper) →
+    {P : Type 0} (k : Keeper P) (b : Beginning) (es : List Entry) (input : InputOf) (start : P)
+    (now : P) (saver : SaverOf) (e : EngineOf) (out text whole : List ℕ) (replies : ℕ) →
+    IsPlayable b es input →
+    HasCome k b es input start (length input.frames) (length es) now saver e out text replies →
+    whole ≡ text ++ numbers_line (length input.frames) (length es) replies e.looper.saves
+    (refused_in e.looper) →
     whole ≡ run_text (length input.frames) (length es) (ran_over es input (first_looper b))
 text_at_end k b es input start now saver e out text whole replies playable come whole_is =
     let s = come.so_far in
-    let ran : Ran = record { output = s.output; replies = s.replies; saves = s.saves; looper = e.looper } in
+    let ran : Ran = record {
+      output = s.output;
+      replies = s.replies;
+      saves = s.saves;
+      looper =
+          e.looper;
+    } in
     whole_is
-    ∙ ap (λ (t : List ℕ). t ++ numbers_line (length input.frames) (length es) replies e.looper.saves (refused_in e.looper)) come.told
-    ∙ ap₂ (λ (n m : ℕ). reply_lines s.replies ++ numbers_line (length input.frames) (length es) n m (refused_in e.looper)) come.counted (saves_counted b s e playable.begins come.step)
-    ∙ ap (run_text (length input.frames) (length es)) (sym (ran_to_end k b es input start now saver e out text replies come))
+    ∙ ap (λ (t : List ℕ). t ++ numbers_line (length input.frames) (length es) replies e.looper.saves
+    (refused_in e.looper)) come.told
+    ∙ ap₂ (λ (n m : ℕ). reply_lines s.replies ++ numbers_line (length input.frames) (length es) n m
+    (refused_in e.looper)) come.counted (saves_counted b s e playable.begins come.step)
+    ∙ ap (run_text (length input.frames) (length es))
+    (sym (ran_to_end k b es input start now saver e out text replies come))
 
 -- the files at the end
 pub files_at_end :
-    {P : Type 0} (k : Keeper P) (b : Beginning) (es : List Entry) (input : InputOf) (start : P) (now : P) (saver : SaverOf) (e : EngineOf) (out text : List ℕ) (replies : ℕ) →
-    HasCome k b es input start (length input.frames) (length es) now saver e out text replies → Writes k (saved_by es input (first_looper b)) start now Written
+    {P : Type 0} (k : Keeper P) (b : Beginning) (es : List Entry) (input : InputOf) (start : P)
+    (now : P) (saver : SaverOf) (e : EngineOf) (out text : List ℕ) (replies : ℕ) →
+    HasCome k b es input start (length input.frames) (length es) now saver e out text replies →
+    Writes k (saved_by es input (first_looper b)) start now Written
 files_at_end k b es input start now saver e out text replies come =
-    subst (λ (ss : List Save). Writes k (files_for_all b.settings.rate ss) start now Written) (ap (λ (r : Ran). r.saves) (sym (ran_to_end k b es input start now saver e out text replies come))) come.files
+    subst (λ (ss : List Save). Writes k (files_for_all b.settings.rate ss) start now Written)
+    (ap (λ (r : Ran). r.saves)
+    (sym (ran_to_end k b es input start now saver e out text replies come))) come.files
 
 -- the run plays what is behind the last entry, and ends, or it wants memory
 pub ends :
-    {P : Type 0} (k : Keeper P) (b : Beginning) (es : List Entry) (input : InputOf) (start : P) (now : P) (saver : SaverOf) (e last : EngineOf) (out text whole told : List ℕ) (done replies : ℕ)
-    (r : Result Unit Stopped) → IsPlayable b es input → done ≡ played_before (length input.frames) es (length es) → HasCome k b es input start done (length es) now saver e out text replies →
+    {P : Type 0} (k : Keeper P) (b : Beginning) (es : List Entry) (input : InputOf) (start : P)
+    (now : P) (saver : SaverOf) (e last : EngineOf) (out text whole told : List ℕ)
+    (done replies : ℕ)
+    (r : Result Unit Stopped) → IsPlayable b es input → done ≡ played_before (length input.frames)
+    es (length es) → HasCome k b es input start done (length es) now saver e out text replies →
     OnOk r (last ≡ went_on (span_of done (length input.frames - done) input.frames) e) →
-    OnOk r (whole ≡ (out ++ samples input.channels input.bits (put_out (span_of done (length input.frames - done) input.frames) e)) ++ padding (samples_size (length input.frames) input.channels input.bits)) →
-    OnOk r (told ≡ text ++ numbers_line (length input.frames) (length es) replies last.looper.saves (refused_in last.looper)) →
+    OnOk r (whole ≡ (out
+    ++ samples input.channels input.bits
+    (put_out (span_of done (length input.frames - done) input.frames) e))
+    ++ padding (samples_size (length input.frames) input.channels input.bits)) →
+    OnOk r (told ≡ text ++ numbers_line (length input.frames) (length es) replies last.looper.saves
+    (refused_in last.looper)) →
     IfErr r (λ why. why ≡ NoMemory) → EndsRun k es input (first_looper b) start now whole told r
-ends k b es input start now saver e last out text whole told done replies (Ok u) playable place come played heard numbers memory =
-    let made = out ++ samples input.channels input.bits (put_out (span_of done (length input.frames - done) input.frames) e) in
+ends k b es input start now saver e last out text whole told done replies (Ok u) playable place come
+    played heard numbers memory =
+    let made = out ++ samples input.channels input.bits
+    (put_out (span_of done (length input.frames - done) input.frames) e) in
     let within : done ≤ length input.frames = omega (arith, place) in
     let all : length input.frames ≤ length input.frames = omega arith in
-    let on = come_frames k b es input start done (length input.frames) (length es) now saver e last out made text replies within all come played refl in (
+    let on = come_frames k b es input start done (length input.frames) (length es) now saver e last
+    out made text replies within all come played refl in (
       out_at_end k b es input start now saver last made text whole replies on heard,
       text_at_end k b es input start now saver last made text told replies playable on numbers,
       files_at_end k b es input start now saver last made text replies on,
     )
-ends k b es input start now saver e last out text whole told done replies (Err why) playable place come played heard numbers memory =
+ends k b es input start now saver e last out text whole told done replies (Err why) playable place
+    come played heard numbers memory =
     subst (λ (w : Stopped). StopsAt k (saved_by es input (first_looper b)) start now w) (sym memory)
     (stop_now k b es input start done (length es) now saver e out text replies playable place come)
 
 -- a run that begins can be played
 pub first_playable :
-    (e : EngineOf) (first : IsFirst e) (es : List Entry) (input : InputOf) → HasRoomFor e.journal.quota es → IsTrue (are_stamped es) → length es < 2 ^ 63 → length input.frames ≤ max_file_frames →
+    (e : EngineOf) (first : IsFirst e) (es : List Entry) (input : InputOf) →
+    HasRoomFor e.journal.quota es → IsTrue (are_stamped es) → length es < 2 ^ 63 →
+    length input.frames ≤ max_file_frames →
     IsPlayable first.beginning es input
 first_playable e first es input room stamped few short =
     record {
@@ -155,16 +203,23 @@ first_playable e first es input room stamped few short =
 
 -- and has come to its beginning
 pub first_come :
-    {P : Type 0} (k : Keeper P) (e : EngineOf) (first : IsFirst e) (es : List Entry) (input : InputOf) (start : P) (saver : SaverOf) (rate : ℕ) (out text : List ℕ) →
-    saver ≡ record { rate = rate; saving = None } → rate ≡ e.looper.rate → out ≡ head_of input → text ≡ [] → HasCome k first.beginning es input start 0 0 start saver e out text 0
+    {P : Type 0} (k : Keeper P) (e : EngineOf) (first : IsFirst e) (es : List Entry)
+    (input : InputOf) (start : P) (saver : SaverOf) (rate : ℕ) (out text : List ℕ) →
+    saver ≡ record { rate = rate; saving = None } → rate ≡ e.looper.rate → out ≡ head_of input →
+    text ≡ [] → HasCome k first.beginning es input start 0 0 start saver e out text 0
 first_come k e first es input start saver rate out text idle rate_is head none =
-    let same : rate ≡ first.beginning.settings.rate = rate_is ∙ ap (λ (f : EngineOf). f.looper.rate) first.is in
-    let fresh : saver ≡ record { rate = first.beginning.settings.rate; saving = None } = idle ∙ ap (λ n. let s : SaverOf = record { rate = n; saving = None } in s) same in
+    let same : rate ≡ first.beginning.settings.rate =
+    rate_is ∙ ap (λ (f : EngineOf). f.looper.rate) first.is in
+    let fresh : saver ≡ record { rate = first.beginning.settings.rate; saving = None } =
+    idle ∙ ap (λ n. let s : SaverOf = record { rate = n; saving = None } in s) same in
     begin_come k first.beginning es input start saver e out text 0 first.is fresh head none refl
 
 -- how it ends is told of its looper
 pub ends_first :
-    {P : Type 0} (k : Keeper P) (e : EngineOf) (first : IsFirst e) (es : List Entry) (input : InputOf) (start now : P) (out text : List ℕ) (r : Result Unit Stopped) →
-    EndsRun k es input (first_looper first.beginning) start now out text r → EndsRun k es input e.looper start now out text r
+    {P : Type 0} (k : Keeper P) (e : EngineOf) (first : IsFirst e) (es : List Entry)
+    (input : InputOf) (start now : P) (out text : List ℕ) (r : Result Unit Stopped) →
+    EndsRun k es input (first_looper first.beginning) start now out text r →
+    EndsRun k es input e.looper start now out text r
 ends_first k e first es input start now out text r ended =
-    subst (λ (l : Looper). EndsRun k es input l start now out text r) (sym (ap (λ (f : EngineOf). f.looper) first.is)) ended
+    subst (λ (l : Looper). EndsRun k es input l start now out text r)
+    (sym (ap (λ (f : EngineOf). f.looper) first.is)) ended

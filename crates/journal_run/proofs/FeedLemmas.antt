@@ -24,110 +24,158 @@ use Rattle.journal_run.specs.declared.feeding.Stopped.{Stopped}
 use Rattle.journal_run.specs.declared.feeding.Stopped.TheVariants.{Writing, NoMemory}
 
 -- only how far the blocks have come decides which may come
-behind_same : (a b : Option SavingOf) → underway_in a ≡ underway_in b → (x : Block) → underway_in (behind a x) ≡ underway_in (behind b x)
+behind_same : (a b : Option SavingOf) → underway_in a ≡ underway_in b → (x : Block) →
+    underway_in (behind a x) ≡ underway_in (behind b x)
 behind_same None None same x = refl
 behind_same None (Some t) same x = absurd (cc)
 behind_same (Some s) None same x = absurd (cc)
 behind_same (Some s) (Some t) same (Head save name target settings) = refl
 behind_same (Some s) (Some t) same (Part save index frames) =
-    let one : s.underway ≡ t.underway = cc in ap (λ (b : Underway). underway_in (behind (Some (record s { underway = b })) (Part save index frames))) one
+    let one : s.underway ≡ t.underway = cc in
+    ap (λ (b : Underway).
+    underway_in (behind (Some (record s { underway = b })) (Part save index frames))) one
 behind_same (Some s) (Some t) same (End save) = refl
 
-come_same : (a b : Option SavingOf) → underway_in a ≡ underway_in b → (bs : List Block) → may_all_come a bs ≡ may_all_come b bs
+come_same : (a b : Option SavingOf) → underway_in a ≡ underway_in b → (bs : List Block) →
+    may_all_come a bs ≡ may_all_come b bs
 come_same a b same [] = refl
 come_same a b same (x ∷ bs) =
-    ap₂ (λ (first rest : Bool). first && rest) (ap (λ (o : Option Underway). is_some (place_after (save_of x) o x) && fits_name x) same)
+    ap₂ (λ (first rest : Bool). first && rest)
+    (ap (λ (o : Option Underway). is_some (place_after (save_of x) o x) && fits_name x) same)
     (come_same (behind a x) (behind b x) (behind_same a b same x) bs)
 
-over_same : (a b : Option SavingOf) → underway_in a ≡ underway_in b → (bs : List Block) → underway_in (behind_all a bs) ≡ underway_in (behind_all b bs)
+over_same : (a b : Option SavingOf) → underway_in a ≡ underway_in b → (bs : List Block) →
+    underway_in (behind_all a bs) ≡ underway_in (behind_all b bs)
 over_same a b same [] = same
 over_same a b same (x ∷ bs) = over_same (behind a x) (behind b x) (behind_same a b same x) bs
 
 -- what may come behind a block
-rest_may : (saving after : Option SavingOf) (b : Block) (rest : List Block) → underway_in after ≡ underway_in (behind saving b) → MayEnd saving (b ∷ rest) → MayEnd after rest
+rest_may : (saving after : Option SavingOf) (b : Block) (rest : List Block) →
+    underway_in after ≡ underway_in (behind saving b) → MayEnd saving (b ∷ rest) → MayEnd after rest
 rest_may saving after b rest same may = record {
-  may = come_same after (behind saving b) same rest ∙ (and_parts (may_come saving b) (may_all_come (behind saving b) rest) may.may).1;
+  may = come_same after (behind saving b) same rest
+      ∙ (and_parts (may_come saving b) (may_all_come (behind saving b) rest) may.may).1;
   over = over_same after (behind saving b) same rest ∙ may.over;
 }
 
 -- how far the files have come behind a block
 files_on :
-    {P : Type 0} (k : Keeper P) (rate : ℕ) (all fs : List SavedFile) (start old new : P) (before now : Ending) (saving : Option SavingOf) (after : Ending → Option SavingOf) (b : Block)
-    (rest : List Block) → fs ≡ due rate saving b → after Written ≡ behind saving b → HasWritten k rate all start old before saving (b ∷ rest) → GoesOn k fs old new before now →
+    {P : Type 0} (k : Keeper P) (rate : ℕ) (all fs : List SavedFile) (start old new : P)
+    (before now : Ending) (saving : Option SavingOf) (after : Ending → Option SavingOf)
+    (b : Block)
+    (rest : List Block) → fs ≡ due rate saving b → after Written ≡ behind saving b →
+    HasWritten k rate all start old before saving (b ∷ rest) → GoesOn k fs old new before now →
     HasWritten k rate all start new now (after now) rest
-files_on k rate all fs start old new Written Written saving after b rest fs_are after_is w goes = record {
-  done = w.done ++ fs;
-  whole = w.whole
-      ∙ ap (λ more. w.done ++ more) (ap₂ (λ (f : List SavedFile) (o : Option SavingOf). f ++ due_for_all rate o rest) (sym fs_are) (sym after_is))
-      ∙ sym (append_assoc w.done fs (due_for_all rate (after Written) rest));
-  written = writes_more k w.done fs start old new Written w.written goes;
-}
+files_on k rate all fs start old new Written Written saving after b rest fs_are after_is w goes =
+    record {
+      done = w.done ++ fs;
+      whole = w.whole
+          ∙ ap (λ more. w.done ++ more)
+          (ap₂ (λ (f : List SavedFile) (o : Option SavingOf). f ++ due_for_all rate o rest)
+          (sym fs_are) (sym after_is))
+          ∙ sym (append_assoc w.done fs (due_for_all rate (after Written) rest));
+      written = writes_more k w.done fs start old new Written w.written goes;
+    }
 files_on k rate all fs start old new Written Failed saving after b rest fs_are after_is w goes =
     let more = due_for_all rate (behind saving b) rest in
-    let whole = w.whole ∙ ap (λ f. w.done ++ (f ++ more)) (sym fs_are) ∙ sym (append_assoc w.done fs more) in
-    subst (λ a. Writes k a start new Failed) (sym whole) (writes_failed k (w.done ++ fs) more start new (writes_more k w.done fs start old new Failed w.written goes))
+    let whole = w.whole ∙ ap (λ f. w.done ++ (f ++ more)) (sym fs_are)
+    ∙ sym (append_assoc w.done fs more) in
+    subst (λ a. Writes k a start new Failed) (sym whole)
+    (writes_failed k (w.done ++ fs) more start new
+    (writes_more k w.done fs start old new Failed w.written goes))
 files_on k rate all fs start old new Written Memory saving after b rest fs_are after_is w goes =
     let more = due_for_all rate (behind saving b) rest in
-    let whole = w.whole ∙ ap (λ f. w.done ++ (f ++ more)) (sym fs_are) ∙ sym (append_assoc w.done fs more) in
-    subst (λ a. Writes k a start new Memory) (sym whole) (writes_wanted k (w.done ++ fs) more start new (writes_more k w.done fs start old new Memory w.written goes))
+    let whole = w.whole ∙ ap (λ f. w.done ++ (f ++ more)) (sym fs_are)
+    ∙ sym (append_assoc w.done fs more) in
+    subst (λ a. Writes k a start new Memory) (sym whole)
+    (writes_wanted k (w.done ++ fs) more start new
+    (writes_more k w.done fs start old new Memory w.written goes))
 files_on k rate all fs start old new Failed now saving after b rest fs_are after_is w goes =
-    subst (λ e. HasWritten k rate all start new e (after e) rest) (sym goes.0) (subst (λ p. Writes k all start p Failed) (sym goes.1) w)
+    subst (λ e. HasWritten k rate all start new e (after e) rest) (sym goes.0)
+    (subst (λ p. Writes k all start p Failed) (sym goes.1) w)
 files_on k rate all fs start old new Memory now saving after b rest fs_are after_is w goes =
-    subst (λ e. HasWritten k rate all start new e (after e) rest) (sym goes.0) (subst (λ p. Writes k all start p Memory) (sym goes.1) w)
+    subst (λ e. HasWritten k rate all start new e (after e) rest) (sym goes.0)
+    (subst (λ p. Writes k all start p Memory) (sym goes.1) w)
 
 -- what an end leaves, by its outcome
 ends_by :
-    {P : Type 0} (k : Keeper P) (rate : ℕ) (all : List SavedFile) (start new : P) (ending : Ending) (rest : List Block) (outcome : ℕ) (result : Result Unit Stopped) →
-    outcome ≡ ending_number ending → EndedBy outcome result → HasWritten k rate all start new ending None rest → MayEnd None rest →
+    {P : Type 0} (k : Keeper P) (rate : ℕ) (all : List SavedFile) (start new : P) (ending : Ending)
+    (rest : List Block) (outcome : ℕ) (result : Result Unit Stopped) →
+    outcome ≡ ending_number ending → EndedBy outcome result →
+    HasWritten k rate all start new ending None rest → MayEnd None rest →
     FeedsOrStops k rate all start new None rest result
-ends_by k rate all start new Written rest outcome (Ok u) is ended files may = record { files = files; may = may }
-ends_by k rate all start new Written rest outcome (Err Writing) is ended files may = absurd (omega arith)
-ends_by k rate all start new Written rest outcome (Err NoMemory) is ended files may = absurd (ended.0 is)
+ends_by k rate all start new Written rest outcome (Ok u) is ended files may =
+    record { files = files; may = may }
+ends_by k rate all start new Written rest outcome (Err Writing) is ended files may =
+    absurd (omega arith)
+ends_by k rate all start new Written rest outcome (Err NoMemory) is ended files may =
+    absurd (ended.0 is)
 ends_by k rate all start new Failed rest outcome (Ok u) is ended files may = absurd (omega arith)
 ends_by k rate all start new Failed rest outcome (Err Writing) is ended files may = files
-ends_by k rate all start new Failed rest outcome (Err NoMemory) is ended files may = absurd (ended.1 is)
+ends_by k rate all start new Failed rest outcome (Err NoMemory) is ended files may =
+    absurd (ended.1 is)
 ends_by k rate all start new Memory rest outcome (Ok u) is ended files may = absurd (omega arith)
-ends_by k rate all start new Memory rest outcome (Err Writing) is ended files may = absurd (omega arith)
+ends_by k rate all start new Memory rest outcome (Err Writing) is ended files may =
+    absurd (omega arith)
 ends_by k rate all start new Memory rest outcome (Err NoMemory) is ended files may = files
 
 -- a block that lets the save go on
 pub feeds_on :
-    {P : Type 0} (k : Keeper P) (rate : ℕ) (all : List SavedFile) (start old new : P) (saving after : Option SavingOf) (b : Block) (rest : List Block) →
-    Accepts k rate b saving after old new Continue → Feeds k rate all start old saving (b ∷ rest) → Feeds k rate all start new after rest
+    {P : Type 0} (k : Keeper P) (rate : ℕ) (all : List SavedFile) (start old new : P)
+    (saving after : Option SavingOf) (b : Block) (rest : List Block) →
+    Accepts k rate b saving after old new Continue → Feeds k rate all start old saving (b ∷ rest) →
+    Feeds k rate all start new after rest
 feeds_on k rate all start old new None after (Head save name target settings) rest accepts feeds =
     let w = feeds.files in
-    subst (λ o. Feeds k rate all start new o rest) (sym accepts.0) (subst (λ p. Feeds k rate all start p (behind None (Head save name target settings)) rest) (sym accepts.1) (record {
+    subst (λ o. Feeds k rate all start new o rest) (sym accepts.0)
+    (subst (λ p. Feeds k rate all start p (behind None (Head save name target settings)) rest)
+    (sym accepts.1) (record {
       files = record { done = w.done; whole = w.whole; written = w.written };
-      may = rest_may None (behind None (Head save name target settings)) (Head save name target settings) rest refl feeds.may;
+      may = rest_may None (behind None (Head save name target settings))
+          (Head save name target settings) rest refl feeds.may;
     }))
-feeds_on k rate all start old new (Some s) after (Head save name target settings) rest accepts feeds = absurd (let may = feeds.may.may in cc)
-feeds_on k rate all start old new None after (Part save index frames) rest accepts feeds = absurd accepts
+feeds_on k rate all start old new (Some s) after (Head save name target settings) rest accepts
+    feeds = absurd (let may = feeds.may.may in cc)
+feeds_on k rate all start old new None after (Part save index frames) rest accepts feeds =
+    absurd accepts
 feeds_on k rate all start old new (Some s) after (Part save index frames) rest accepts feeds =
     let t = accepts.0 in
     subst (λ o. Feeds k rate all start new o rest) (sym t.saving) (record {
-      files = files_on k rate all _ start old new s.ending t.ending (Some s) (λ e. Some (with e)) (Part save index frames) rest refl refl feeds.files t.writes;
+      files = files_on k rate all _ start old new s.ending t.ending (Some s) (λ e. Some (with e))
+          (Part save index frames) rest refl refl feeds.files t.writes;
       may = rest_may (Some s) (Some (with t.ending)) (Part save index frames) rest refl feeds.may;
     })
   where
     with : Ending → SavingOf
     with e = with_frames index frames e s
 feeds_on k rate all start old new None after (End save) rest accepts feeds = absurd accepts
-feeds_on k rate all start old new (Some s) after (End save) rest accepts feeds = absurd (let is = accepts.answer_is in cc)
+feeds_on k rate all start old new (Some s) after (End save) rest accepts feeds =
+    absurd (let is = accepts.answer_is in cc)
 
 -- a block that ends it
 pub feeds_end :
-    {P : Type 0} (k : Keeper P) (rate : ℕ) (all : List SavedFile) (start old new : P) (saving after : Option SavingOf) (b : Block) (rest : List Block) (target : Target) (outcome : ℕ)
+    {P : Type 0} (k : Keeper P) (rate : ℕ) (all : List SavedFile) (start old new : P)
+    (saving after : Option SavingOf) (b : Block) (rest : List Block) (target : Target)
+    (outcome : ℕ)
     (result : Result Unit Stopped) →
-    Accepts k rate b saving after old new (Finished target outcome) → EndedBy outcome result → Feeds k rate all start old saving (b ∷ rest) → FeedsOrStops k rate all start new after rest result
-feeds_end k rate all start old new saving after (Head save name target settings) rest at outcome result accepts ended feeds = absurd (let is = accepts.2 in cc)
-feeds_end k rate all start old new None after (Part save index frames) rest at outcome result accepts ended feeds = absurd accepts
-feeds_end k rate all start old new (Some s) after (Part save index frames) rest at outcome result accepts ended feeds = absurd (let is = accepts.1 in cc)
-feeds_end k rate all start old new None after (End save) rest at outcome result accepts ended feeds = absurd accepts
-feeds_end k rate all start old new (Some s) after (End save) rest at outcome result accepts ended feeds =
+    Accepts k rate b saving after old new (Finished target outcome) → EndedBy outcome result →
+    Feeds k rate all start old saving (b ∷ rest) →
+    FeedsOrStops k rate all start new after rest result
+feeds_end k rate all start old new saving after (Head save name target settings) rest at outcome
+    result accepts ended feeds = absurd (let is = accepts.2 in cc)
+feeds_end k rate all start old new None after (Part save index frames) rest at outcome result
+    accepts ended feeds = absurd accepts
+feeds_end k rate all start old new (Some s) after (Part save index frames) rest at outcome result
+    accepts ended feeds = absurd (let is = accepts.1 in cc)
+feeds_end k rate all start old new None after (End save) rest at outcome result accepts ended
+    feeds = absurd accepts
+feeds_end k rate all start old new (Some s) after (End save) rest at outcome result accepts ended
+    feeds =
     let number : outcome ≡ ending_number accepts.ending = (let is = accepts.answer_is in cc) in
     subst (λ o. FeedsOrStops k rate all start new o rest result) (sym accepts.over)
     (ends_by k rate all start new accepts.ending rest outcome result number ended
-    (files_on k rate all _ start old new s.ending accepts.ending (Some s) (λ e. None) (End save) rest refl refl feeds.files accepts.writes)
+    (files_on k rate all _ start old new s.ending accepts.ending (Some s) (λ e. None) (End save)
+    rest refl refl feeds.files accepts.writes)
     (rest_may (Some s) None (End save) rest refl feeds.may))
 
 -- what is left behind the next block
@@ -135,12 +183,16 @@ same_behind : {X : Type 0} (front xs ys : List X) → front ++ xs ≡ front ++ y
 same_behind [] xs ys same = same
 same_behind (f ∷ front) xs ys same = same_behind front xs ys (cc)
 
-pub left_behind : (e : EngineOf) (b : Block) → IsSomehowInStep e → next_block e ≡ Some b → left e ≡ b ∷ left (block_sent e)
+pub left_behind : (e : EngineOf) (b : Block) → IsSomehowInStep e → next_block e ≡ Some b →
+    left e ≡ b ∷ left (block_sent e)
 left_behind e b in_step next =
     let now = block_sent_in_step in_step.beginning in_step.so_far e in_step.step in
-    let both : in_step.so_far.sent ++ left e ≡ in_step.so_far.sent ++ (option_to_list (next_block e) ++ left (block_sent e)) =
-    sym in_step.step.blocks ∙ now.blocks ∙ append_assoc in_step.so_far.sent (option_to_list (next_block e)) (left (block_sent e)) in
-    same_behind in_step.so_far.sent (left e) _ both ∙ ap (λ o. option_to_list o ++ left (block_sent e)) next
+    let both : in_step.so_far.sent ++ left e ≡ in_step.so_far.sent
+    ++ (option_to_list (next_block e) ++ left (block_sent e)) =
+    sym in_step.step.blocks ∙ now.blocks
+    ∙ append_assoc in_step.so_far.sent (option_to_list (next_block e)) (left (block_sent e)) in
+    same_behind in_step.so_far.sent (left e) _ both
+    ∙ ap (λ o. option_to_list o ++ left (block_sent e)) next
 
 pub some_left : (e : EngineOf) (b : Block) → next_block e ≡ Some b → 0 < length (left e)
 some_left e b next = by (left e) next
@@ -156,12 +208,16 @@ none_left e next = by (left e) next
     by [] none = refl
     by (x ∷ bs) some = absurd (cc)
 
-pub sent_one : (b : Beginning) (s : SoFar) (e : EngineOf) → IsInStep b s e → SentOn b s (block_sent e)
-sent_one b s e h = record { sent = s.sent ++ option_to_list (next_block e); step = block_sent_in_step b s e h }
+pub sent_one : (b : Beginning) (s : SoFar) (e : EngineOf) → IsInStep b s e →
+    SentOn b s (block_sent e)
+sent_one b s e h =
+    record { sent = s.sent ++ option_to_list (next_block e); step = block_sent_in_step b s e h }
 
-pub sent_more : (b : Beginning) (s : SoFar) (e next : EngineOf) → SentOn b s e → ((t : SoFar) → IsInStep b t e → SentOn b t next) → SentOn b s next
+pub sent_more : (b : Beginning) (s : SoFar) (e next : EngineOf) → SentOn b s e →
+    ((t : SoFar) → IsInStep b t e → SentOn b t next) → SentOn b s next
 sent_more b s e next first then_ =
-    let more = then_ (record s { sent = first.sent }) first.step in record { sent = more.sent; step = more.step }
+    let more = then_ (record s { sent = first.sent }) first.step in
+    record { sent = more.sent; step = more.step }
 
 -- a block that is sent changes no journal
 pub journal_sent : (e : EngineOf) → (block_sent e).journal ≡ e.journal

@@ -27,23 +27,32 @@ sender_below sender (SaveSession name) is = let less = ltb-true sender 2 is in o
 sender_below sender Quit is = let less = ltb-true sender 2 is in omega arith
 
 valid_sender : (loops : ℕ) (e : Entry) → IsTrue (is_valid loops e) → e.sender < 3
-valid_sender loops e valid = sender_below e.sender e.command (and_parts (is_sender e.sender e.command) (is_allowed loops e.command) valid).0
+valid_sender loops e valid = sender_below e.sender e.command
+    (and_parts (is_sender e.sender e.command) (is_allowed loops e.command) valid).0
 
 -- one entry more of a sender
-one_more : (e : Entry) (es : List Entry) (sender : ℕ) → length (entries_of sender (e ∷ es)) ≡ (cond (e.sender == sender) 1 0) + length (entries_of sender es)
+one_more : (e : Entry) (es : List Entry) (sender : ℕ) →
+    length (entries_of sender (e ∷ es)) ≡ (cond (e.sender == sender) 1 0)
+    + length (entries_of sender es)
 one_more e es sender = by (e.sender == sender)
   where
-    by : (b : Bool) → length (cond b (e ∷ entries_of sender es) (entries_of sender es)) ≡ (cond b 1 0) + length (entries_of sender es)
-    by true = let one : suc (length (entries_of sender es)) ≡ 1 + length (entries_of sender es) = omega arith in one
-    by false = let none : length (entries_of sender es) ≡ 0 + length (entries_of sender es) = omega arith in none
+    by : (b : Bool) → length (cond b (e ∷ entries_of sender es) (entries_of sender es))
+        ≡ (cond b 1 0) + length (entries_of sender es)
+    by true = let one : suc (length (entries_of sender es)) ≡ 1 + length (entries_of sender es) =
+        omega arith in one
+    by false = let none : length (entries_of sender es) ≡ 0 + length (entries_of sender es) =
+        omega arith in none
 
 -- other senders have none
-none_of : (loops sender : ℕ) (es : List Entry) → 3 ≤ sender → AllByRecursion (λ e. IsTrue (is_valid loops e)) es → length (entries_of sender es) ≡ 0
+none_of : (loops sender : ℕ) (es : List Entry) → 3 ≤ sender →
+    AllByRecursion (λ e. IsTrue (is_valid loops e)) es → length (entries_of sender es) ≡ 0
 none_of loops sender [] above valid = refl
 none_of loops sender (e ∷ es) above valid =
     let less = valid_sender loops e valid.0 in
-    one_more e es sender ∙ ap (λ b. (cond b 1 0) + length (entries_of sender es)) (unlike e.sender sender (omega arith))
-    ∙ (let rest = none_of loops sender es above valid.1 in let none : 0 + length (entries_of sender es) ≡ 0 = omega arith in none)
+    one_more e es sender ∙ ap (λ b. (cond b 1 0) + length (entries_of sender es))
+    (unlike e.sender sender (omega arith))
+    ∙ (let rest = none_of loops sender es above valid.1 in
+    let none : 0 + length (entries_of sender es) ≡ 0 = omega arith in none)
   where
     unlike : (a b : ℕ) → a < b → (a == b) ≡ false
     unlike a b less = by (a == b) refl
@@ -63,7 +72,8 @@ all_of_three loops (e ∷ es) valid =
     let zero_more = one_more e es 0 in
     let one_more_ = one_more e es 1 in
     let two_more = one_more e es 2 in
-    let which : (cond (e.sender == 0) 1 0) + (cond (e.sender == 1) 1 0) + (cond (e.sender == 2) 1 0) ≡ 1 = just_one e.sender less in
+    let which : (cond (e.sender == 0) 1 0) + (cond (e.sender == 1) 1 0)
+    + (cond (e.sender == 2) 1 0) ≡ 1 = just_one e.sender less in
     let longer : length (e ∷ es) ≡ suc (length es) = refl in
     omega arith
   where
@@ -74,11 +84,13 @@ all_of_three loops (e ∷ es) valid =
     just_one (suc (suc (suc n))) less = absurd (omega arith)
 
 -- a journal's entries have room in the greatest quota
-pub journal_has_room : (loops : ℕ) (es : List Entry) → AreOfJournal loops es → HasRoomFor max_quota es
+pub journal_has_room : (loops : ℕ) (es : List Entry) → AreOfJournal loops es →
+    HasRoomFor max_quota es
 journal_has_room loops es are zero = are.few 0
 journal_has_room loops es are (suc zero) = are.few 1
 journal_has_room loops es are (suc (suc zero)) = are.few 2
-journal_has_room loops es are (suc (suc (suc sender))) = let none = none_of loops (suc (suc (suc sender))) es (omega arith) are.valid in omega arith
+journal_has_room loops es are (suc (suc (suc sender))) = let none =
+    none_of loops (suc (suc (suc sender))) es (omega arith) are.valid in omega arith
 
 -- and there are few of them
 pub journal_is_short : (loops : ℕ) (es : List Entry) → AreOfJournal loops es → length es < 2 ^ 63

@@ -52,8 +52,8 @@ pub files_for_all-append : (rate : ℕ) (ss more : List Save) →
 files_for_all-append rate [] more = refl
 files_for_all-append rate (s ∷ ss) more =
     ap (λ (fs : List SavedFile). files_of_save rate s ++ fs) (files_for_all-append rate ss more)
-        ∙ sym
-        (append_assoc (files_of_save rate s) (files_for_all rate ss) (files_for_all rate more))
+    ∙ sym
+    (append_assoc (files_of_save rate s) (files_for_all rate ss) (files_for_all rate more))
 
 -- a span and the one behind it are one
 spans_join : (from done count : ℕ) (frames : List Sound) → from ≤ done →
@@ -61,29 +61,29 @@ spans_join : (from done count : ℕ) (frames : List Sound) → from ≤ done →
     ≡ span_of from (done - from) frames ++ span_of done count frames
 spans_join from done count frames order =
     ap (λ n. span_of from n frames) (let all : done + count - from ≡ done - from + count =
-        omega arith in all)
+    omega arith in all)
     ∙ span_more from (done - from) count frames
     ∙ ap (λ n. span_of from (done - from) frames ++ span_of n count frames)
-        (let here : from + (done - from) ≡ done = omega arith in here)
+    (let here : from + (done - from) ≡ done = omega arith in here)
 
 -- the run comes on by frames
 pub come_frames :
     {P : Type 0} (k : Keeper P) (b : Beginning) (es : List Entry) (input : InputOf) (start : P)
-        (done until taken : ℕ) (now : P) (saver : SaverOf) (e next : EngineOf)
-        (out longer text : List ℕ) (replies : ℕ) →
+    (done until taken : ℕ) (now : P) (saver : SaverOf) (e next : EngineOf)
+    (out longer text : List ℕ) (replies : ℕ) →
     done ≤ until → until ≤ length input.frames →
-        HasCome k b es input start done taken now saver e out text replies →
+    HasCome k b es input start done taken now saver e out text replies →
     next ≡ went_on (span_of done (until - done) input.frames) e →
     longer
-        ≡ out ++ samples input.channels input.bits
-        (put_out (span_of done (until - done) input.frames) e) →
+    ≡ out ++ samples input.channels input.bits
+    (put_out (span_of done (until - done) input.frames) e) →
     HasCome k b es input start until taken now saver next longer text replies
 come_frames k b es input start done until taken now saver e next out longer text replies order
     within come next_is longer_is =
     let xs = span_of done (until - done) input.frames in
     let s = come.so_far in
     subst (λ n. HasCome k b es input start until taken now saver n longer text replies)
-        (sym next_is) (record {
+    (sym next_is) (record {
       so_far = with_frames xs (put_out xs e) s;
       step = went_on_in_step b s xs e come.step;
       frames = ap (λ (ys : List Sound). ys ++ xs) come.frames
@@ -98,10 +98,10 @@ come_frames k b es input start done until taken now saver e next out longer text
       heard = longer_is
           ∙ ap (λ (o : List ℕ). o ++ samples input.channels input.bits (put_out xs e)) come.heard
           ∙ append_assoc (head_of input) (samples input.channels input.bits s.output)
-              (samples input.channels input.bits (put_out xs e))
+          (samples input.channels input.bits (put_out xs e))
           ∙ ap (λ (o : List ℕ). head_of input ++ o)
-              (sym
-              (flat_map-append (frame_bytes input.channels input.bits) s.output (put_out xs e)));
+          (sym
+          (flat_map-append (frame_bytes input.channels input.bits) s.output (put_out xs e)));
       told = come.told;
       counted = come.counted;
       few = come.few;
@@ -113,8 +113,8 @@ parted : (es : List Entry) (index : ℕ) (x : Entry) → index < length es → x
     es ≡ take index es ++ x ∷ drop (suc index) es
 parted es index x inside is =
     sym (take-append-drop index es)
-        ∙ ap (λ (ds : List Entry). take index es ++ ds) (drop-cons es index x inside
-        ∙ ap (λ y. y ∷ drop (suc index) es) (sym is))
+    ∙ ap (λ (ds : List Entry). take index es ++ ds) (drop-cons es index x inside
+    ∙ ap (λ y. y ∷ drop (suc index) es) (sym is))
 
 -- clipping changes no sender
 senders_clipped : (count sender : ℕ) (es : List Entry) →
@@ -124,8 +124,8 @@ senders_clipped count sender (e ∷ es) = by (e.sender == sender) (senders_clipp
   where
     by : (is : Bool) → next_seq sender (all_clipped count es) ≡ next_seq sender es →
         length
-            (cond is (clipped count e ∷ entries_of sender (all_clipped count es))
-            (entries_of sender (all_clipped count es)))
+        (cond is (clipped count e ∷ entries_of sender (all_clipped count es))
+        (entries_of sender (all_clipped count es)))
         ≡ length (cond is (e ∷ entries_of sender es) (entries_of sender es))
     by true rest = ap suc rest
     by false rest = rest
@@ -135,11 +135,11 @@ next_at : (es : List Entry) (index : ℕ) (x : Entry) → IsTrue (are_stamped es
     x ≡ get_or es index x → may_be_next (take index es) x ≡ true
 next_at es index x stamped inside is =
     let whole : are_stamped (take index es ++ x ∷ drop (suc index) es) ≡ true =
-        ap are_stamped (sym (parted es index x inside is)) ∙ stamped in
+    ap are_stamped (sym (parted es index x inside is)) ∙ stamped in
     let both =
-        and_parts (are_stamped_behind [] (take index es))
-        (are_stamped_behind ([] ++ take index es) (x ∷ drop (suc index) es))
-        (sym (are_stamped_behind-append [] (take index es) (x ∷ drop (suc index) es)) ∙ whole) in
+    and_parts (are_stamped_behind [] (take index es))
+    (are_stamped_behind ([] ++ take index es) (x ∷ drop (suc index) es))
+    (sym (are_stamped_behind-append [] (take index es) (x ∷ drop (suc index) es)) ∙ whole) in
     (and_parts (may_be_next (take index es) x) _ both.1).0
 
 -- it has its sender's next number, and its frame isn't below the last
@@ -147,16 +147,16 @@ seq_at : (es : List Entry) (index : ℕ) (x : Entry) → IsTrue (are_stamped es)
     x ≡ get_or es index x → x.seq ≡ next_seq x.sender (take index es)
 seq_at es index x stamped inside is =
     let both =
-        and_parts (nat_le (last_frame (take index es)) x.frame)
-        (x.seq == next_seq x.sender (take index es)) (next_at es index x stamped inside is) in
+    and_parts (nat_le (last_frame (take index es)) x.frame)
+    (x.seq == next_seq x.sender (take index es)) (next_at es index x stamped inside is) in
     eqb-true x.seq (next_seq x.sender (take index es)) both.1
 
 pub frame_at : (es : List Entry) (index : ℕ) (x : Entry) → IsTrue (are_stamped es) →
     index < length es → x ≡ get_or es index x → last_frame (take index es) ≤ x.frame
 frame_at es index x stamped inside is =
     let both =
-        and_parts (nat_le (last_frame (take index es)) x.frame)
-        (x.seq == next_seq x.sender (take index es)) (next_at es index x stamped inside is) in
+    and_parts (nat_le (last_frame (take index es)) x.frame)
+    (x.seq == next_seq x.sender (take index es)) (next_at es index x stamped inside is) in
     leb-true (last_frame (take index es)) x.frame both.0
 
 -- with one entry more
@@ -173,63 +173,63 @@ pub played_before-push : (count : ℕ) (es : List Entry) (index : ℕ) (x : Entr
     x ≡ get_or es index x → played_before count es (index + 1) ≡ min x.frame count
 played_before-push count es index x inside is =
     ap (λ (ys : List Entry). min (last_frame ys) count) (take-push es index x inside is)
-        ∙ ap (λ n. min n count) (last_frame-push 0 (take index es) x)
+    ∙ ap (λ n. min n count) (last_frame-push 0 (take index es) x)
 
 -- the entry that is stamped is the journal's, at the frame where it is taken
 pub stamped_so :
     (es : List Entry) (count index : ℕ) (x : Entry) (e : EngineOf) → IsTrue (are_stamped es) →
-        index < length es → x ≡ get_or es index x →
+    index < length es → x ≡ get_or es index x →
     e.journal.entries ≡ all_clipped count (take index es) → e.frames ≡ min x.frame count →
-        entry_of x.sender x.command e ≡ clipped count x
+    entry_of x.sender x.command e ≡ clipped count x
 stamped_so es count index x e stamped inside is entries frames =
     let seq : next_seq x.sender e.journal.entries ≡ x.seq = ap (next_seq x.sender) entries
-        ∙ senders_clipped count x.sender (take index es) ∙ sym (seq_at es index x stamped inside is)
-        in
+    ∙ senders_clipped count x.sender (take index es) ∙ sym (seq_at es index x stamped inside is)
+    in
     ap₂ (λ (n m : ℕ). let r : Entry =
-        record { frame = n; sender = x.sender; seq = m; command = x.command } in r) frames seq
+    record { frame = n; sender = x.sender; seq = m; command = x.command } in r) frames seq
 
 -- so the journal is that of one entry more
 pub stamped_entries :
     (es : List Entry) (count index : ℕ) (x : Entry) (e : EngineOf) → IsTrue (are_stamped es) →
-        index < length es → x ≡ get_or es index x →
+    index < length es → x ≡ get_or es index x →
     e.journal.entries ≡ all_clipped count (take index es) → e.frames ≡ min x.frame count →
     e.journal.entries ++ entry_of x.sender x.command e ∷ []
-        ≡ all_clipped count (take (index + 1) es)
+    ≡ all_clipped count (take (index + 1) es)
 stamped_entries es count index x e stamped inside is entries frames =
     ap₂ (λ (a : List Entry) (y : Entry). a ++ y ∷ []) entries
-        (stamped_so es count index x e stamped inside is entries frames)
+    (stamped_so es count index x e stamped inside is entries frames)
     ∙ sym (map-append (clipped count) (take index es) (x ∷ []))
     ∙ ap (all_clipped count) (sym (take-push es index x inside is))
 
 -- how many frames the engine has played
 pub frames_played :
     {P : Type 0} (k : Keeper P) (b : Beginning) (es : List Entry) (input : InputOf) (start : P)
-        (done taken : ℕ) (now : P) (saver : SaverOf) (e : EngineOf) (out text : List ℕ)
-        (replies : ℕ) →
+    (done taken : ℕ) (now : P) (saver : SaverOf) (e : EngineOf) (out text : List ℕ)
+    (replies : ℕ) →
     done ≤ length input.frames →
-        HasCome k b es input start done taken now saver e out text replies → e.frames ≡ done
+    HasCome k b es input start done taken now saver e out text replies → e.frames ≡ done
 frames_played k b es input start done taken now saver e out text replies within come =
     come.step.frames ∙ ap length come.frames ∙ length-take-le done input.frames within
 
 -- its sender has room
 pub has_room_at :
     (es : List Entry) (count quota index : ℕ) (x : Entry) (e : EngineOf) → HasRoomFor quota es →
-        index < length es → x ≡ get_or es index x →
+    index < length es → x ≡ get_or es index x →
     e.journal.entries ≡ all_clipped count (take index es) → e.journal.quota ≡ quota →
-        HasRoom x.sender e.journal
+    HasRoom x.sender e.journal
 has_room_at es count quota index x e room inside is entries quota_is =
     let before = next_seq x.sender (take index es) in
     let here : next_seq x.sender e.journal.entries ≡ before = ap (next_seq x.sender) entries
-        ∙ senders_clipped count x.sender (take index es) in
+    ∙ senders_clipped count x.sender (take index es) in
     let all : next_seq x.sender es ≡ next_seq x.sender (take index es ++ x ∷ drop (suc index) es) =
-        ap (next_seq x.sender) (parted es index x inside is) in
+    ap (next_seq x.sender) (parted es index x inside is) in
     let split : next_seq x.sender (take index es ++ x ∷ drop (suc index) es)
-        ≡ before + next_seq x.sender (x ∷ drop (suc index) es) =
+    ≡ before + next_seq x.sender (x ∷ drop (suc index) es) =
     ap length
-        (filter-append (λ (f : Entry). f.sender == x.sender) (take index es)
-        (x ∷ drop (suc index) es)) ∙ length-append (entries_of x.sender (take index es)) _ in
+    (filter-append (λ (f : Entry). f.sender == x.sender) (take index es)
+    (x ∷ drop (suc index) es)) ∙ length-append (entries_of x.sender (take index es)) _ in
     let one : next_seq x.sender (x ∷ drop (suc index) es)
-        ≡ suc (next_seq x.sender (drop (suc index) es)) = rw (eq-eqb x.sender x.sender refl) refl in
+    ≡ suc (next_seq x.sender (drop (suc index) es)) = rw (eq-eqb x.sender x.sender refl) refl in
     let most = room x.sender in
     let quota_same = ap (room_of x.sender) quota_is in
     omega (arith, most, quota_same)
@@ -241,23 +241,23 @@ at_most_one (Some x) = omega arith
 -- the run comes on by an entry
 pub come_entry :
     {P : Type 0} (k : Keeper P) (b : Beginning) (es : List Entry) (input : InputOf) (start : P)
-        (done taken : ℕ) (x : Entry) (now later : P) (saver after : SaverOf) (e next : EngineOf)
+    (done taken : ℕ) (x : Entry) (now later : P) (saver after : SaverOf) (e next : EngineOf)
     (out text longer : List ℕ) (replies more : ℕ) → IsTrue (are_stamped es) → taken < length es →
-        x ≡ get_or es taken x → done ≡ min x.frame (length input.frames) →
-        done ≤ length input.frames →
+    x ≡ get_or es taken x → done ≡ min x.frame (length input.frames) →
+    done ≤ length input.frames →
     HasCome k b es input start done taken now saver e out text replies → after.rate ≡ saver.rate →
-        after.saving ≡ None → left next ≡ [] →
+    after.saving ≡ None → left next ≡ [] →
     longer ≡ text ++ reply_lines (option_to_list (reply (entry_of x.sender x.command e) e.looper)) →
     more ≡ replies + length (option_to_list (reply (entry_of x.sender x.command e) e.looper)) →
     Writes k
-        (files_for_all saver.rate (option_to_list (save (entry_of x.sender x.command e) e.looper)))
-        now later Written →
+    (files_for_all saver.rate (option_to_list (save (entry_of x.sender x.command e) e.looper)))
+    now later Written →
     ((s : SoFar) → IsInStep b s e →
-        SentOn b
-        (with_taken (reply (entry_of x.sender x.command e) e.looper)
-        (save (entry_of x.sender x.command e) e.looper) s) next) →
+    SentOn b
+    (with_taken (reply (entry_of x.sender x.command e) e.looper)
+    (save (entry_of x.sender x.command e) e.looper) s) next) →
     next.journal
-        ≡ record e.journal { entries = e.journal.entries ++ entry_of x.sender x.command e ∷ [] } →
+    ≡ record e.journal { entries = e.journal.entries ++ entry_of x.sender x.command e ∷ [] } →
     HasCome k b es input start done (taken + 1) later after next out longer more
 come_entry k b es input start done taken x now later saver after e next out text longer replies more
     stamped inside is place within come rate idle none told counted files sent journal =
@@ -268,7 +268,7 @@ come_entry k b es input start done taken x now later saver after e next out text
     let count = length input.frames in
     let on = sent s come.step in
     let played =
-        frames_played k b es input start done taken now saver e out text replies within come in
+    frames_played k b es input start done taken now saver e out text replies within come in
     record {
       so_far = record (with_taken (reply en e.looper) (save en e.looper) s) { sent = on.sent };
       step = on.step;
@@ -291,7 +291,7 @@ come_entry k b es input start done taken x now later saver after e next out text
           subst (λ fs. Writes k fs start later Written)
           (sym (files_for_all-append b.settings.rate s.saves made))
           (writes_more k (files_for_all b.settings.rate s.saves)
-              (files_for_all b.settings.rate made) start now later Written come.files
+          (files_for_all b.settings.rate made) start now later Written come.files
           (subst (λ r. Writes k (files_for_all r made) now later Written) come.rate files));
     }
 
@@ -302,13 +302,13 @@ all_later count [] least never done early within = All-nil (λ (e : Entry). done
 all_later count (e ∷ es) least never done early within =
     let here : done ≤ min e.frame count = (let first = never.0 in omega arith) in
     All-cons (λ (f : Entry). done ≤ f.frame) (clipped count e) (all_clipped count es) here
-        (all_later count es e.frame never.1 done (let first = never.0 in omega arith) within)
+    (all_later count es e.frame never.1 done (let first = never.0 in omega arith) within)
 
 -- the saves so far are the first ones of the whole run
 pub first_saves :
     (b : Beginning) (s : SoFar) (e : EngineOf) (es : List Entry) (input : InputOf)
-        (done taken : ℕ) → IsInStep b s e → s.input ≡ take done input.frames →
-        done ≤ length input.frames →
+    (done taken : ℕ) → IsInStep b s e → s.input ≡ take done input.frames →
+    done ≤ length input.frames →
     e.journal.entries ≡ all_clipped (length input.frames) (take taken es) →
     All (λ (f : Entry). done ≤ f.frame) (all_clipped (length input.frames) (drop taken es)) →
     (more : List Save) × ((ran_over es input (first_looper b)).saves ≡ s.saves ++ more)
@@ -323,26 +323,28 @@ first_saves b s e es input done taken step frames within entries later =
     let up_to : All (λ (f : Entry). f.frame ≤ length xs) first =
     subst (λ fs. All (λ (f : Entry). f.frame ≤ length xs) fs) entries
     (subst (λ n. All (λ (f : Entry). f.frame ≤ n) e.journal.entries)
-        (step.frames ∙ ap length frames) step.before) in
+    (step.frames ∙ ap length frames) step.before) in
     let from : All (λ (f : Entry). length xs ≤ f.frame) next =
-        subst (λ n. All (λ (f : Entry). n ≤ f.frame) next) (sym so_long) later in
+    subst (λ n. All (λ (f : Entry). n ≤ f.frame) next) (sym so_long) later in
     let parts : all_clipped count es ≡ first ++ next =
-        ap (all_clipped count) (sym (take-append-drop taken es))
-        ∙ map-append (clipped count) (take taken es) (drop taken es) in
+    ap (all_clipped count) (sym (take-append-drop taken es))
+    ∙ map-append (clipped count) (take taken es) (drop taken es) in
     let whole =
-        ap₂ (λ (fs : List Entry) (zs : List Sound). run fs zs l) parts
-        (sym (take-append-drop done input.frames)) ∙ run-cut first next xs ys l up_to from in
+    ap₂ (λ (fs : List Entry) (zs : List Sound). run fs zs l) parts
+    (sym (take-append-drop done input.frames)) ∙ run-cut first next xs ys l up_to from in
     let begun : (run first xs l).saves ≡ s.saves =
-        ap₂ (λ (fs : List Entry) (zs : List Sound). (run fs zs l).saves) (sym entries) (sym frames)
-        ∙ ap (λ (r : Ran). r.saves) step.ran in
-    let more = (run_from (length xs) next ys (run first xs l).looper).saves in
-    (more, ap (λ (r : Ran). r.saves) (sym (run-clipped es input.frames l) ∙ whole)
-        ∙ ap (λ (ss : List Save). ss ++ more) begun)
+    ap₂ (λ (fs : List Entry) (zs : List Sound). (run fs zs l).saves) (sym entries) (sym frames)
+    ∙ ap (λ (r : Ran). r.saves) step.ran in
+    let more = (run_from (length xs) next ys (run first xs l).looper).saves in (
+      more,
+      ap (λ (r : Ran). r.saves) (sym (run-clipped es input.frames l) ∙ whole)
+          ∙ ap (λ (ss : List Save). ss ++ more) begun,
+    )
 
 -- a run that stopped has written the first of the files of its saves
 pub stops_before :
     {P : Type 0} (k : Keeper P) (fs more all : List SavedFile) (start now : P) (why : Stopped) →
-        all ≡ fs ++ more → StopsAt k fs start now why → StopsAt k all start now why
+    all ≡ fs ++ more → StopsAt k fs start now why → StopsAt k all start now why
 stops_before k fs more all start now Writing is stops =
     subst (λ a. Writes k a start now Failed) (sym is) (writes_failed k fs more start now stops)
 stops_before k fs more all start now NoMemory is stops =
@@ -351,8 +353,8 @@ stops_before k fs more all start now NoMemory is stops =
 -- a run that stopped in one save has written those before it
 pub stops_in :
     {P : Type 0} (k : Keeper P) (fs gs : List SavedFile) (start now later : P) (why : Stopped) →
-        Writes k fs start now Written → StopsAt k gs now later why →
-        StopsAt k (fs ++ gs) start later why
+    Writes k fs start now Written → StopsAt k gs now later why →
+    StopsAt k (fs ++ gs) start later why
 stops_in k fs gs start now later Writing first stops =
     writes_more k fs gs start now later Failed first stops
 stops_in k fs gs start now later NoMemory first stops =
@@ -361,9 +363,9 @@ stops_in k fs gs start now later NoMemory first stops =
 -- spans one behind the other
 pub spans_more :
     (from done count : ℕ) (n : ℕ) (frames : List Sound) (e0 e1 e2 : EngineOf) → n ≡ count →
-        from ≤ done → e1 ≡ went_on (span_of from (done - from) frames) e0 →
+    from ≤ done → e1 ≡ went_on (span_of from (done - from) frames) e0 →
     e2 ≡ went_on (span_of done n frames) e1 →
-        e2 ≡ went_on (span_of from (done + count - from) frames) e0
+    e2 ≡ went_on (span_of from (done + count - from) frames) e0
 spans_more from done count n frames e0 e1 e2 same order first second =
     second
     ∙ ap₂ (λ (m : ℕ) (e : EngineOf). went_on (span_of done m frames) e) same first
@@ -372,10 +374,10 @@ spans_more from done count n frames e0 e1 e2 same order first second =
 
 pub heard_more :
     (from done count : ℕ) (n channels bits : ℕ) (frames : List Sound) (e0 e1 : EngineOf)
-        (out0 out1 out2 : List ℕ) → n ≡ count → from ≤ done →
-        e1 ≡ went_on (span_of from (done - from) frames) e0 →
+    (out0 out1 out2 : List ℕ) → n ≡ count → from ≤ done →
+    e1 ≡ went_on (span_of from (done - from) frames) e0 →
     out1 ≡ out0 ++ samples channels bits (put_out (span_of from (done - from) frames) e0) →
-        out2 ≡ out1 ++ samples channels bits (put_out (span_of done n frames) e1) →
+    out2 ≡ out1 ++ samples channels bits (put_out (span_of done n frames) e1) →
     out2 ≡ out0 ++ samples channels bits (put_out (span_of from (done + count - from) frames) e0)
 heard_more from done count n channels bits frames e0 e1 out0 out1 out2 same order engine first
     second =
@@ -383,12 +385,12 @@ heard_more from done count n channels bits frames e0 e1 out0 out1 out2 same orde
     let ys = span_of done count frames in
     second
     ∙ ap₂
-        (λ (m : ℕ) (e : EngineOf).
-        out1 ++ samples channels bits (put_out (span_of done m frames) e)) same engine
+    (λ (m : ℕ) (e : EngineOf).
+    out1 ++ samples channels bits (put_out (span_of done m frames) e)) same engine
     ∙ ap (λ (o : List ℕ). o ++ samples channels bits (put_out ys (went_on xs e0))) first
     ∙ append_assoc out0 (samples channels bits (put_out xs e0))
-        (samples channels bits (put_out ys (went_on xs e0)))
+    (samples channels bits (put_out ys (went_on xs e0)))
     ∙ ap (λ (o : List ℕ). out0 ++ o)
     (sym (flat_map-append (frame_bytes channels bits) (put_out xs e0) (put_out ys (went_on xs e0)))
     ∙ ap (samples channels bits) (sym (put_out-append xs ys e0)
-        ∙ ap (λ (zs : List Sound). put_out zs e0) (sym (spans_join from done count frames order))))
+    ∙ ap (λ (zs : List Sound). put_out zs e0) (sym (spans_join from done count frames order))))

@@ -19,14 +19,16 @@ use Rattle.engine_steps.proofs.StepLemmas.{took_in_step}
 use Rattle.journal_run.specs.Feeding.{MayEnd, IsSomehowInStep}
 
 -- an engine that has no block left is sending nothing
-no_save : (saves : List Save) (part : ℕ) → IsPart saves part → drop part (blocks_for_all saves) ≡ [] → (saves ≡ []) × (part ≡ 0)
+no_save : (saves : List Save) (part : ℕ) → IsPart saves part →
+    drop part (blocks_for_all saves) ≡ [] → (saves ≡ []) × (part ≡ 0)
 no_save [] part is none = (refl, is)
 no_save (s ∷ saves) part is none =
     let size = length-drop part (blocks_for_all (s ∷ saves)) in
     let both = length-append (blocks_of_save s) (blocks_for_all saves) in
     absurd (omega (arith, ap length none, size, both))
 
-pub sends_nothing : (e : EngineOf) → IsSomehowInStep e → left e ≡ [] → (e.sending ≡ []) × (e.part ≡ 0)
+pub sends_nothing : (e : EngineOf) → IsSomehowInStep e → left e ≡ [] → (e.sending ≡ [])
+    × (e.part ≡ 0)
 sends_nothing e step none = no_save e.sending e.part step.step.part none
 
 -- so it may take any entry
@@ -34,43 +36,62 @@ pub may_take : (en : Entry) (e : EngineOf) → IsSomehowInStep e → left e ≡ 
 may_take en e step none = nothing_left_clears en e (sends_nothing e step none).0
 
 -- and then it has the blocks of the entry's save left
-pub taken_left : (en : Entry) (e next : EngineOf) → next ≡ took en e → IsSomehowInStep e → left e ≡ [] → left next ≡ blocks_for_all (option_to_list (save en e.looper))
+pub taken_left : (en : Entry) (e next : EngineOf) → next ≡ took en e → IsSomehowInStep e →
+    left e ≡ [] → left next ≡ blocks_for_all (option_to_list (save en e.looper))
 taken_left en e next is step none =
     let nothing = sends_nothing e step none in
-    ap left is ∙ ap₂ (λ (n : ℕ) (ss : List Save). drop n (blocks_for_all (ss ++ option_to_list (save en e.looper)))) nothing.1 nothing.0
+    ap left is ∙ ap₂ (λ (n : ℕ) (ss : List Save).
+    drop n (blocks_for_all (ss ++ option_to_list (save en e.looper)))) nothing.1 nothing.0
 
 -- it stays in step
 pub taken_in_step :
-    (b : Beginning) (s : SoFar) (en : Entry) (e next : EngineOf) → next ≡ took en e → en.frame ≡ e.frames → ClearsSent en e → IsInStep b s e →
+    (b : Beginning) (s : SoFar) (en : Entry) (e next : EngineOf) → next ≡ took en e →
+    en.frame ≡ e.frames → ClearsSent en e → IsInStep b s e →
     IsInStep b (with_taken (reply en e.looper) (save en e.looper) s) next
-taken_in_step b s en e next is now clears h = subst (IsInStep b (with_taken (reply en e.looper) (save en e.looper) s)) (sym is) (took_in_step b s en e now clears h)
+taken_in_step b s en e next is now clears h =
+    subst (IsInStep b (with_taken (reply en e.looper) (save en e.looper) s)) (sym is)
+    (took_in_step b s en e now clears h)
 
-pub taken_somehow : (en : Entry) (e next : EngineOf) → next ≡ took en e → en.frame ≡ e.frames → left e ≡ [] → IsSomehowInStep e → IsSomehowInStep next
+pub taken_somehow : (en : Entry) (e next : EngineOf) → next ≡ took en e → en.frame ≡ e.frames →
+    left e ≡ [] → IsSomehowInStep e → IsSomehowInStep next
 taken_somehow en e next is now none step = record {
   beginning = step.beginning;
   so_far = with_taken (reply en e.looper) (save en e.looper) step.so_far;
-  step = taken_in_step step.beginning step.so_far en e next is now (may_take en e step none) step.step;
+  step = taken_in_step step.beginning step.so_far en e next is now (may_take en e step none)
+      step.step;
 }
 
 -- the blocks of one save, if any, may come, and make its files due
-made_ends : (o : Option Save) → ((s : Save) → o ≡ Some s → IsMade s) → MayEnd None (blocks_for_all (option_to_list o))
+made_ends : (o : Option Save) → ((s : Save) → o ≡ Some s → IsMade s) →
+    MayEnd None (blocks_for_all (option_to_list o))
 made_ends None made = record { may = refl; over = refl }
 made_ends (Some s) made =
-    subst (MayEnd None) (sym (append-nil (blocks_of_save s))) (record { may = save_blocks_come s (made s refl).sent; over = ap underway_in (save_over s) })
+    subst (MayEnd None) (sym (append-nil (blocks_of_save s)))
+    (record {
+      may = save_blocks_come s (made s refl).sent;
+      over =
+          ap underway_in (save_over s);
+    })
 
 pub taken_may_end :
-    (en : Entry) (e next : EngineOf) (frame : ℕ) → next ≡ took en e → KeepsLooper frame e.looper → IsSomehowInStep e → left e ≡ [] → MayEnd None (left next)
+    (en : Entry) (e next : EngineOf) (frame : ℕ) → next ≡ took en e → KeepsLooper frame e.looper →
+    IsSomehowInStep e → left e ≡ [] → MayEnd None (left next)
 taken_may_end en e next frame is kept step none =
-    subst (MayEnd None) (sym (taken_left en e next is step none)) (made_ends (save en e.looper) (λ s made. save-made frame en e.looper s kept made))
+    subst (MayEnd None) (sym (taken_left en e next is step none))
+    (made_ends (save en e.looper) (λ s made. save-made frame en e.looper s kept made))
 
-made_due : (rate : ℕ) (o : Option Save) → due_for_all rate None (blocks_for_all (option_to_list o)) ≡ files_for_all rate (option_to_list o)
+made_due : (rate : ℕ) (o : Option Save) → due_for_all rate None (blocks_for_all (option_to_list o))
+    ≡ files_for_all rate (option_to_list o)
 made_due rate None = refl
-made_due rate (Some s) = ap (due_for_all rate None) (append-nil (blocks_of_save s)) ∙ files_due rate s ∙ sym (append-nil (files_of_save rate s))
+made_due rate (Some s) = ap (due_for_all rate None) (append-nil (blocks_of_save s))
+    ∙ files_due rate s ∙ sym (append-nil (files_of_save rate s))
 
 pub taken_due :
-    (en : Entry) (e next : EngineOf) (rate : ℕ) → next ≡ took en e → IsSomehowInStep e → left e ≡ [] →
+    (en : Entry) (e next : EngineOf) (rate : ℕ) → next ≡ took en e → IsSomehowInStep e →
+    left e ≡ [] →
     due_for_all rate None (left next) ≡ files_for_all rate (option_to_list (save en e.looper))
-taken_due en e next rate is step none = ap (due_for_all rate None) (taken_left en e next is step none) ∙ made_due rate (save en e.looper)
+taken_due en e next rate is step none = ap (due_for_all rate None)
+    (taken_left en e next is step none) ∙ made_due rate (save en e.looper)
 
 -- what holds at any answer
 pub on_any : {A E : Type 0} (r : Result A E) (X : Type 0) → X → OnOk r X

@@ -24,52 +24,85 @@ use Rattle.journal_run.proofs.TakeLemmas.{may_take, taken_in_step}
 use Rattle.journal_run.proofs.PlayLemmas.{files_for_all-append, first_saves, all_later, stamped_entries, frames_played, played_before-push, stops_before, stops_in}
 
 -- entries behind an index never fall below the last one before it
-never_drop : (least index : ℕ) (es : List Entry) → FramesNeverFall least es → FramesNeverFall (last_frame_from least (take index es)) (drop index es)
+never_drop : (least index : ℕ) (es : List Entry) → FramesNeverFall least es →
+    FramesNeverFall (last_frame_from least (take index es)) (drop index es)
 never_drop least zero es never = never
 never_drop least (suc index) [] never = never
 never_drop least (suc index) (e ∷ es) never = never_drop e.frame index es never.1
 
 -- entries behind an index are taken no earlier than so many frames
-later_from : (count index : ℕ) (es : List Entry) → IsTrue (are_stamped es) → All (λ (e : Entry). played_before count es index ≤ e.frame) (all_clipped count (drop index es))
+later_from : (count index : ℕ) (es : List Entry) → IsTrue (are_stamped es) →
+    All (λ (e : Entry). played_before count es index ≤ e.frame) (all_clipped count (drop index es))
 later_from count index es stamped =
-    all_later count (drop index es) (last_frame (take index es)) (never_drop 0 index es (stamped_never_fall es stamped)) (played_before count es index) (omega arith) (omega arith)
+    all_later count (drop index es) (last_frame (take index es))
+    (never_drop 0 index es (stamped_never_fall es stamped)) (played_before count es index)
+    (omega arith) (omega arith)
 
 -- a run that wants memory between two entries
 pub stop_now :
-    {P : Type 0} (k : Keeper P) (b : Beginning) (es : List Entry) (input : InputOf) (start : P) (done taken : ℕ) (now : P) (saver : SaverOf) (e : EngineOf) (out text : List ℕ) (replies : ℕ) →
-    IsPlayable b es input → done ≡ played_before (length input.frames) es taken → HasCome k b es input start done taken now saver e out text replies →
-    StopsAt k (files_for_all b.settings.rate (ran_over es input (first_looper b)).saves) start now NoMemory
+    {P : Type 0} (k : Keeper P) (b : Beginning) (es : List Entry) (input : InputOf) (start : P)
+    (done taken : ℕ) (now : P) (saver : SaverOf) (e : EngineOf) (out text : List ℕ)
+    (replies : ℕ) →
+    IsPlayable b es input → done ≡ played_before (length input.frames) es taken →
+    HasCome k b es input start done taken now saver e out text replies →
+    StopsAt k (files_for_all b.settings.rate (ran_over es input (first_looper b)).saves) start now
+    NoMemory
 stop_now k b es input start done taken now saver e out text replies playable place come =
     let count = length input.frames in
     let s = come.so_far in
-    let later = subst (λ n. All (λ (f : Entry). n ≤ f.frame) (all_clipped count (drop taken es))) (sym place) (later_from count taken es playable.stamped) in
-    let first = first_saves b s e es input done taken come.step come.frames (omega (arith, place)) come.entries later in
+    let later = subst (λ n. All (λ (f : Entry). n ≤ f.frame) (all_clipped count (drop taken es)))
+    (sym place) (later_from count taken es playable.stamped) in
+    let first = first_saves b s e es input done taken come.step come.frames (omega (arith, place))
+    come.entries later in
     let rate = b.settings.rate in
-    let all : files_for_all rate (ran_over es input (first_looper b)).saves ≡ files_for_all rate s.saves ++ files_for_all rate first.0 =
+    let all : files_for_all rate (ran_over es input (first_looper b)).saves ≡ files_for_all rate
+    s.saves ++ files_for_all rate first.0 =
     ap (files_for_all rate) first.1 ∙ files_for_all-append rate s.saves first.0 in
-    subst (λ fs. Writes k fs start now Memory) (sym all)
-    (writes_before (files_for_all rate s.saves) (files_for_all rate first.0) _ _ (writes_all (files_for_all rate s.saves) _ _ come.files.0), come.files.1)
+    subst (λ fs. Writes k fs start now Memory) (sym all) (
+      writes_before (files_for_all rate s.saves) (files_for_all rate first.0) _ _
+          (writes_all (files_for_all rate s.saves) _ _ come.files.0),
+      come.files.1,
+    )
 
 -- a run that stops in the save of an entry
 pub stop_in_entry :
-    {P : Type 0} (k : Keeper P) (b : Beginning) (es : List Entry) (input : InputOf) (start : P) (done taken : ℕ) (x : Entry) (now later : P) (saver : SaverOf) (e : EngineOf) (out text : List ℕ) (replies : ℕ) (why : Stopped) →
-    IsPlayable b es input → taken < length es → x ≡ get_or es taken x → done ≡ min x.frame (length input.frames) → HasCome k b es input start done taken now saver e out text replies →
-    StopsAt k (files_for_all saver.rate (option_to_list (save (entry_of x.sender x.command e) e.looper))) now later why →
-    StopsAt k (files_for_all b.settings.rate (ran_over es input (first_looper b)).saves) start later why
-stop_in_entry k b es input start done taken x now later saver e out text replies why playable inside is place come stops =
+    {P : Type 0} (k : Keeper P) (b : Beginning) (es : List Entry) (input : InputOf) (start : P)
+    (done taken : ℕ) (x : Entry) (now later : P) (saver : SaverOf) (e : EngineOf)
+    (out text : List ℕ) (replies : ℕ) (why : Stopped) →
+    IsPlayable b es input → taken < length es → x ≡ get_or es taken x →
+    done ≡ min x.frame (length input.frames) →
+    HasCome k b es input start done taken now saver e out text replies →
+    StopsAt k (files_for_all saver.rate
+    (option_to_list (save (entry_of x.sender x.command e) e.looper))) now later why →
+    StopsAt k (files_for_all b.settings.rate (ran_over es input (first_looper b)).saves) start later
+    why
+stop_in_entry k b es input start done taken x now later saver e out text replies why playable inside
+    is place come stops =
     let count = length input.frames in
     let s = come.so_far in
     let en = entry_of x.sender x.command e in
     let rate = b.settings.rate in
     let made = option_to_list (save en e.looper) in
     let somehow : IsSomehowInStep e = record { beginning = b; so_far = s; step = come.step } in
-    let step = taken_in_step b s en e (took en e) refl refl (may_take en e somehow come.none) come.step in
-    let at : done ≡ played_before count es (taken + 1) = place ∙ sym (played_before-push count es taken x inside is) in
-    let behind = subst (λ n. All (λ (f : Entry). n ≤ f.frame) (all_clipped count (drop (taken + 1) es))) (sym at) (later_from count (taken + 1) es playable.stamped) in
+    let step = taken_in_step b s en e (took en e) refl refl (may_take en e somehow come.none)
+    come.step in
+    let at : done ≡ played_before count es (taken + 1) =
+    place ∙ sym (played_before-push count es taken x inside is) in
+    let behind = subst
+    (λ n. All (λ (f : Entry). n ≤ f.frame) (all_clipped count (drop (taken + 1) es))) (sym at)
+    (later_from count (taken + 1) es playable.stamped) in
     let within : done ≤ count = omega arith in
-    let entries = stamped_entries es count taken x e playable.stamped inside is come.entries (frames_played k b es input start done taken now saver e out text replies within come ∙ place) in
-    let first = first_saves b (with_taken (reply en e.looper) (save en e.looper) s) (took en e) es input done (taken + 1) step come.frames within entries behind in
-    let all : files_for_all rate (ran_over es input (first_looper b)).saves ≡ (files_for_all rate s.saves ++ files_for_all rate made) ++ files_for_all rate first.0 =
-    ap (files_for_all rate) first.1 ∙ files_for_all-append rate (s.saves ++ made) first.0 ∙ ap (λ (fs : List SavedFile). fs ++ files_for_all rate first.0) (files_for_all-append rate s.saves made) in
-    stops_before k (files_for_all rate s.saves ++ files_for_all rate made) (files_for_all rate first.0) _ start later why all
-    (stops_in k (files_for_all rate s.saves) (files_for_all rate made) start now later why come.files (subst (λ r. StopsAt k (files_for_all r made) now later why) come.rate stops))
+    let entries = stamped_entries es count taken x e playable.stamped inside is come.entries
+    (frames_played k b es input start done taken now saver e out text replies within come
+    ∙ place) in
+    let first = first_saves b (with_taken (reply en e.looper) (save en e.looper) s) (took en e) es
+    input done (taken + 1) step come.frames within entries behind in
+    let all : files_for_all rate (ran_over es input (first_looper b)).saves
+    ≡ (files_for_all rate s.saves ++ files_for_all rate made) ++ files_for_all rate first.0 =
+    ap (files_for_all rate) first.1 ∙ files_for_all-append rate (s.saves ++ made) first.0
+    ∙ ap (λ (fs : List SavedFile). fs ++ files_for_all rate first.0)
+    (files_for_all-append rate s.saves made) in
+    stops_before k (files_for_all rate s.saves ++ files_for_all rate made)
+    (files_for_all rate first.0) _ start later why all
+    (stops_in k (files_for_all rate s.saves) (files_for_all rate made) start now later why
+    come.files (subst (λ r. StopsAt k (files_for_all r made) now later why) come.rate stops))

@@ -1,6 +1,7 @@
--- A run begins with an engine before all frames and entries, whose journal has room for all entries. Each entry is taken at its
--- frame, or behind the last one, and the blocks of its save are given to the saver at once. So at the end what was heard, what
--- was told and what was written are those of the run.
+-- A run begins with an engine before all frames and entries, whose journal has room for all
+-- entries. Each entry is taken at its frame, or behind the last one, and the blocks of its save are
+-- given to the saver at once. So at the end what was heard, what was told and what was written are
+-- those of the run.
 -- "The run" in docs/rules.md.
 use Rattle.std.specs.Prelude.{◌≡◌, ◌≤◌, ℕ, ◌^◌, ◌<◌, ◌++◌, min, [], List, None, Result, Ok, Err, length, take, IsTrue}
 use Rattle.sl_base.specs.Limits.{max_file_frames}
@@ -47,10 +48,13 @@ saved_by es input l = files_for_all l.rate (ran_over es input l).saves
 -- what stands before the samples
 abbrev pub head_of : InputOf → List ℕ
 head_of input =
-    wav_header (samples_size (length input.frames) input.channels input.bits) input.channels input.bits input.rate
+    wav_header (samples_size (length input.frames) input.channels input.bits) input.channels
+    input.bits input.rate
 
 -- what the run gave so far: so many frames were played, and so many entries taken
-pub record HasCome {P : Type 0} (k : Keeper P) (b : Beginning) (es : List Entry) (input : InputOf) (start : P) (done taken : ℕ) (now : P) (saver : SaverOf) (e : EngineOf) (out text : List ℕ) (replies : ℕ) : Type 0 where
+pub record HasCome {P : Type 0} (k : Keeper P) (b : Beginning) (es : List Entry) (input : InputOf)
+    (start : P) (done taken : ℕ) (now : P) (saver : SaverOf) (e : EngineOf) (out text : List ℕ)
+    (replies : ℕ) : Type 0 where
   pub so_far : SoFar
   pub step : IsInStep b so_far e
   pub frames : so_far.input ≡ take done input.frames
@@ -74,7 +78,8 @@ pub record IsPlayable (b : Beginning) (es : List Entry) (input : InputOf) : Type
   pub short : length input.frames ≤ max_file_frames
 
 -- the run is on its way
-pub record IsComing {P : Type 0} (k : Keeper P) (es : List Entry) (input : InputOf) (done taken : ℕ) (now : P) (saver : SaverOf) (e : EngineOf) (out text : List ℕ) (replies : ℕ) : Type 0 where
+pub record IsComing {P : Type 0} (k : Keeper P) (es : List Entry) (input : InputOf) (done taken : ℕ)
+    (now : P) (saver : SaverOf) (e : EngineOf) (out text : List ℕ) (replies : ℕ) : Type 0 where
   pub beginning : Beginning
   pub playable : IsPlayable beginning es input
   pub start : P
@@ -88,16 +93,21 @@ place_of count frame = min frame count
 abbrev pub played_before : ℕ → List Entry → ℕ → ℕ
 played_before count es taken = min (last_frame (take taken es)) count
 
--- what one entry more leaves: the run has come further, or it stops with the first files of its saves
-abbrev pub ComesOrStops : {P : Type 0} → Keeper P → Beginning → List Entry → InputOf → P → ℕ → P → SaverOf → EngineOf → List ℕ → List ℕ → ℕ → Result ℕ Stopped → Type 0
+-- what one entry more leaves: the run has come further, or it stops with the first files of its
+-- saves
+abbrev pub ComesOrStops : {P : Type 0} → Keeper P → Beginning → List Entry → InputOf → P → ℕ → P →
+    SaverOf → EngineOf → List ℕ → List ℕ → ℕ → Result ℕ Stopped → Type 0
 ComesOrStops k b es input start taken now saver e out text replies (Ok done) =
-    HasCome k b es input start done taken now saver e out text replies × (done ≡ played_before (length input.frames) es taken)
+    HasCome k b es input start done taken now saver e out text replies
+    × (done ≡ played_before (length input.frames) es taken)
 ComesOrStops k b es input start taken now saver e out text replies (Err why) =
-    StopsAt k (files_for_all b.settings.rate (ran_over es input (first_looper b)).saves) start now why
+    StopsAt k (files_for_all b.settings.rate (ran_over es input (first_looper b)).saves) start now
+    why
 
--- how a run over this looper ends, by its answer: OUT and the text are the run's and all files of its saves are written, or the
--- first of them are
-abbrev pub EndsRun : {P : Type 0} → Keeper P → List Entry → InputOf → Looper → P → P → List ℕ → List ℕ → Result Unit Stopped → Type 0
+-- how a run over this looper ends, by its answer: OUT and the text are the run's and all files of
+-- its saves are written, or the first of them are
+abbrev pub EndsRun : {P : Type 0} → Keeper P → List Entry → InputOf → Looper → P → P → List ℕ →
+    List ℕ → Result Unit Stopped → Type 0
 EndsRun k es input l start now out text (Ok _) =
     (out ≡ wav_text (ran_over es input l).output input.channels input.bits input.rate)
     × (text ≡ run_text (length input.frames) (length es) (ran_over es input l))
@@ -105,7 +115,8 @@ EndsRun k es input l start now out text (Ok _) =
 EndsRun k es input l start now out text (Err why) = StopsAt k (saved_by es input l) start now why
 
 -- the same of what the run gives
-abbrev pub Performs : {P : Type 0} → Keeper P → List Entry → InputOf → Looper → P → P → Result Performed Stopped → Type 0
+abbrev pub Performs : {P : Type 0} → Keeper P → List Entry → InputOf → Looper → P → P →
+    Result Performed Stopped → Type 0
 Performs k es input l start now (Ok p) =
     (p.out.items ≡ wav_text (ran_over es input l).output input.channels input.bits input.rate)
     × (string_bytes p.text ≡ run_text (length input.frames) (length es) (ran_over es input l))

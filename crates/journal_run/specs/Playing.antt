@@ -32,7 +32,8 @@ Begins setup lists (Err Writing) = ⊥
 Begins setup lists (Err Memory) = ⊤
 
 -- what a run over this looper gives, and does to the keeper; beyond the limit it does nothing
-abbrev pub Plays : {P : Type 0} → Keeper P → List Entry → InputOf → Looper → P → P → Result Performed PlayFault → Type 0
+abbrev pub Plays : {P : Type 0} → Keeper P → List Entry → InputOf → Looper → P → P →
+    Result Performed PlayFault → Type 0
 Plays k es input l start now (Ok p) =
     (p.out.items ≡ wav_text (ran_over es input l).output input.channels input.bits input.rate)
     × (string_bytes p.text ≡ run_text (length input.frames) (length es) (ran_over es input l))

@@ -1,5 +1,5 @@
--- A run has the least quota, 1 or more, with which its journal has room for all entries: as many as each of the senders 0 and
--- 1 has, and half as many as sender 2 has, rounded up.
+-- A run has the least quota, 1 or more, with which its journal has room for all entries: as many as
+-- each of the senders 0 and 1 has, and half as many as sender 2 has, rounded up.
 -- "Entries" in docs/rules.md.
 use Rattle.std.specs.Prelude.{◌≤◌, ℕ, List}
 use Rattle.sl_commands.specs.declared.Entry.{Entry}

@@ -36,7 +36,8 @@ pub struct Performed {
 /// The bytes of all frames of an input like this, without the pad.
 fn size_of(input: &Input) -> usize
     requires { length input.now.frames ≤ max_file_frames }
-    ensures value { result ≡ samples_size (length input.now.frames) input.now.channels input.now.bits }
+    ensures value { result ≡ samples_size (length input.now.frames) input.now.channels
+        input.now.bits }
     ensures within { result < 2 ^ 31 }
 {
     input.len() * (input.channels() as usize * (input.bits() as usize / 8))
@@ -92,15 +93,20 @@ fn finish(
 ) -> Result<(), Stopped>
     requires some { 1 ≤ length frames.old }
     requires heard { length heard.old ≡ length frames.old }
-    requires bytes { length bytes.old ≡ samples_size (length frames.old) input.now.channels input.now.bits }
+    requires bytes { length bytes.old ≡ samples_size (length frames.old) input.now.channels
+        input.now.bits }
     requires done { run.old.engine.frames ≡ done }
     requires within { done ≤ length input.now.frames }
     requires short { length input.now.frames ≤ max_file_frames }
-    ensures engine { OnOk result (run.new.engine ≡ went_on (span_of done (length input.now.frames - done) input.now.frames) run.old.engine) }
-    ensures out { OnOk result (run.new.out.items ≡ (run.old.out.items ++ samples input.now.channels input.now.bits
+    ensures engine { OnOk result
+        (run.new.engine ≡ went_on (span_of done (length input.now.frames - done) input.now.frames)
+        run.old.engine) }
+    ensures out { OnOk result
+        (run.new.out.items ≡ (run.old.out.items ++ samples input.now.channels input.now.bits
         (put_out (span_of done (length input.now.frames - done) input.now.frames) run.old.engine))
         ++ padding (samples_size (length input.now.frames) input.now.channels input.now.bits)) }
-    ensures text { OnOk result (string_bytes run.new.text ≡ string_bytes run.old.text ++ numbers_line (length input.now.frames) entries run.old.replies
+    ensures text { OnOk result (string_bytes run.new.text ≡ string_bytes run.old.text
+        ++ numbers_line (length input.now.frames) entries run.old.replies
         run.new.engine.looper.saves (refused_in run.new.engine.looper)) }
     ensures memory { IfErr result (λ why. why ≡ NoMemory) }
 {
@@ -141,21 +147,26 @@ fn run_all<P: Keeper>(
 ) -> Result<(), Stopped>
     requires some { 1 ≤ length frames.old }
     requires heard { length heard.old ≡ length frames.old }
-    requires bytes { length bytes.old ≡ samples_size (length frames.old) input.now.channels input.now.bits }
+    requires bytes { length bytes.old ≡ samples_size (length frames.old) input.now.channels
+        input.now.bits }
     requires coming { IsComing P.Keeper entries.now input.now 0 0
-        keeper.old run.old.saver run.old.engine run.old.out.items (string_bytes run.old.text) run.old.replies }
+        keeper.old run.old.saver run.old.engine run.old.out.items (string_bytes run.old.text)
+        run.old.replies }
     ensures reads { P.read_faults keeper.new ≡ P.read_faults keeper.old }
     ensures come { (b : Beginning) → (start : P) → IsPlayable b entries.now input.now →
         HasCome P.Keeper b entries.now input.now start 0 0
-        keeper.old run.old.saver run.old.engine run.old.out.items (string_bytes run.old.text) run.old.replies →
-        EndsRun P.Keeper entries.now input.now (first_looper b) start keeper.new run.new.out.items (string_bytes run.new.text) result }
+        keeper.old run.old.saver run.old.engine run.old.out.items (string_bytes run.old.text)
+        run.old.replies →
+        EndsRun P.Keeper entries.now input.now (first_looper b) start keeper.new run.new.out.items
+        (string_bytes run.new.text) result }
 {
     let done = turns(alloc, keeper, run, input, entries, frames, heard, bytes)?;
     finish(run, input, entries.len(), done, frames, heard, bytes)
 }
 
-/// Plays the entries over the input by an engine before all frames and entries, at most `period` frames at a time. The files
-/// of saves are written right behind their entries. The first that isn't written ends the run.
+/// Plays the entries over the input by an engine before all frames and entries, at most `period`
+/// frames at a time. The files of saves are written right behind their entries. The first that
+/// isn't written ends the run.
 pub fn perform<P: Keeper>(
     alloc: Global,
     keeper: &mut P,
@@ -175,7 +186,8 @@ pub fn perform<P: Keeper>(
     requires rate { rate ≡ engine.looper.rate }
     requires in_range { IsTrue (is_rate rate) }
     ensures reads { P.read_faults keeper.new ≡ P.read_faults keeper.old }
-    ensures value { Performs P.Keeper entries.now input.now engine.looper keeper.old keeper.new result }
+    ensures value { Performs P.Keeper entries.now input.now engine.looper keeper.old keeper.new
+        result }
 {
     let out = begin_out(alloc, input)?;
     let size = period as usize * (input.channels() as usize * (input.bits() as usize / 8));

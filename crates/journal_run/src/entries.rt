@@ -24,7 +24,8 @@ use sl_commands::{Entry, Reply};
 use sl_ports::Keeper;
 use std::alloc::Global;
 
-/// What goes on in a run: the engine, the saver, OUT as far as it was heard, and what was told, and in how many replies.
+/// What goes on in a run: the engine, the saver, OUT as far as it was heard, and what was told, and
+/// in how many replies.
 #[derive(Drop)]
 pub struct Run {
     pub engine: Engine,
@@ -65,17 +66,23 @@ fn take_entry<P: Keeper>(
     ensures idle { OnOk result (saver.new.saving ≡ None) }
     ensures none { OnOk result (left engine.new ≡ []) }
     ensures told { OnOk result (string_bytes text.new ≡ string_bytes text.old
-        ++ reply_lines (option_to_list (reply (entry_of entry.now.sender entry.now.command engine.old) engine.old.looper))) }
+        ++ reply_lines (option_to_list
+        (reply (entry_of entry.now.sender entry.now.command engine.old) engine.old.looper))) }
     ensures counted { OnOk result (replies.new ≡ replies.old
-        + length (option_to_list (reply (entry_of entry.now.sender entry.now.command engine.old) engine.old.looper))) }
+        + length (option_to_list
+        (reply (entry_of entry.now.sender entry.now.command engine.old) engine.old.looper))) }
     ensures files { WritesAll P.Keeper (files_for_all saver.old.rate
-        (option_to_list (save (entry_of entry.now.sender entry.now.command engine.old) engine.old.looper)))
+        (option_to_list (save (entry_of entry.now.sender entry.now.command engine.old)
+        engine.old.looper)))
         keeper.old keeper.new result }
     ensures step { (b : Beginning) → (s : SoFar) → IsInStep b s engine.old → OnOk result
-        (SentOn b (with_taken (reply (entry_of entry.now.sender entry.now.command engine.old) engine.old.looper)
-        (save (entry_of entry.now.sender entry.now.command engine.old) engine.old.looper) s) engine.new) }
+        (SentOn b (with_taken
+        (reply (entry_of entry.now.sender entry.now.command engine.old) engine.old.looper)
+        (save (entry_of entry.now.sender entry.now.command engine.old) engine.old.looper) s)
+        engine.new) }
     ensures journal { OnOk result (engine.new.journal ≡ record engine.old.journal {
-      entries = engine.old.journal.entries ++ entry_of entry.now.sender entry.now.command engine.old ∷ [];
+      entries = engine.old.journal.entries ++ entry_of entry.now.sender entry.now.command engine.old
+          ∷ [];
     }) }
 {
     let _done = engine.frames_done();
@@ -115,15 +122,19 @@ fn turn<P: Keeper>(
     requires place { done ≡ played_before (length input.now.frames) entries.now index }
     requires some { 1 ≤ length frames.old }
     requires heard { length heard.old ≡ length frames.old }
-    requires bytes { length bytes.old ≡ samples_size (length frames.old) input.now.channels input.now.bits }
+    requires bytes { length bytes.old ≡ samples_size (length frames.old) input.now.channels
+        input.now.bits }
     requires coming { IsComing P.Keeper entries.now input.now done index
-        keeper.old run.old.saver run.old.engine run.old.out.items (string_bytes run.old.text) run.old.replies }
+        keeper.old run.old.saver run.old.engine run.old.out.items (string_bytes run.old.text)
+        run.old.replies }
     ensures reads { P.read_faults keeper.new ≡ P.read_faults keeper.old }
     ensures come { (b : Beginning) → (start : P) → IsPlayable b entries.now input.now →
         HasCome P.Keeper b entries.now input.now start done index
-        keeper.old run.old.saver run.old.engine run.old.out.items (string_bytes run.old.text) run.old.replies →
+        keeper.old run.old.saver run.old.engine run.old.out.items (string_bytes run.old.text)
+        run.old.replies →
         ComesOrStops P.Keeper b entries.now input.now start (index + 1)
-        keeper.new run.new.saver run.new.engine run.new.out.items (string_bytes run.new.text) run.new.replies result }
+        keeper.new run.new.saver run.new.engine run.new.out.items (string_bytes run.new.text)
+        run.new.replies result }
 {
     let entry = &entries[index];
     let until = frames_before(entry.frame, input.len());
@@ -162,15 +173,19 @@ pub fn turns<P: Keeper>(
 ) -> Result<usize, Stopped>
     requires some { 1 ≤ length frames.old }
     requires heard { length heard.old ≡ length frames.old }
-    requires bytes { length bytes.old ≡ samples_size (length frames.old) input.now.channels input.now.bits }
+    requires bytes { length bytes.old ≡ samples_size (length frames.old) input.now.channels
+        input.now.bits }
     requires coming { IsComing P.Keeper entries.now input.now 0 0
-        keeper.old run.old.saver run.old.engine run.old.out.items (string_bytes run.old.text) run.old.replies }
+        keeper.old run.old.saver run.old.engine run.old.out.items (string_bytes run.old.text)
+        run.old.replies }
     ensures reads { P.read_faults keeper.new ≡ P.read_faults keeper.old }
     ensures come { (b : Beginning) → (start : P) → IsPlayable b entries.now input.now →
         HasCome P.Keeper b entries.now input.now start 0 0
-        keeper.old run.old.saver run.old.engine run.old.out.items (string_bytes run.old.text) run.old.replies →
+        keeper.old run.old.saver run.old.engine run.old.out.items (string_bytes run.old.text)
+        run.old.replies →
         ComesOrStops P.Keeper b entries.now input.now start (length entries.now)
-        keeper.new run.new.saver run.new.engine run.new.out.items (string_bytes run.new.text) run.new.replies result }
+        keeper.new run.new.saver run.new.engine run.new.out.items (string_bytes run.new.text)
+        run.new.replies result }
 {
     let mut done = 0;
     for index in 0..entries.len() {

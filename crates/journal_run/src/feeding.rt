@@ -49,7 +49,8 @@ fn feed_one<P: Keeper>(
     ensures reads { P.read_faults keeper.new ≡ P.read_faults keeper.old }
     ensures fed { (all : List SavedFile) → (start : P) →
         Feeds P.Keeper saver.old.rate all start keeper.old saver.old.saving (left engine.old) →
-        FeedsOrStops P.Keeper saver.old.rate all start keeper.new saver.new.saving (left engine.new) result }
+        FeedsOrStops P.Keeper saver.old.rate all start keeper.new saver.new.saving (left engine.new)
+        result }
     ensures left { left engine.old ≡ block.now ∷ left engine.new }
     ensures sent { (b : Beginning) → (s : SoFar) → IsInStep b s engine.old → SentOn b s engine.new }
     ensures journal { engine.new.journal ≡ engine.old.journal }
@@ -61,7 +62,8 @@ fn feed_one<P: Keeper>(
     }
 }
 
-/// Gives all blocks that are left to the saver, and stops at the end of the first save that isn't written.
+/// Gives all blocks that are left to the saver, and stops at the end of the first save that isn't
+/// written.
 pub fn feed<P: Keeper>(
     alloc: Global,
     keeper: &mut P,

@@ -23,7 +23,12 @@ impl Model for Input {
 
     ghost Value = { InputOf };
 
-    ghost view = { λ i. record { rate = i.form.rate; channels = i.form.channels; bits = i.form.bits; frames = frames_of_form i.form i.bytes.items } };
+    ghost view = { λ i. record {
+      rate = i.form.rate;
+      channels = i.form.channels;
+      bits = i.form.bits;
+      frames = frames_of_form i.form i.bytes.items;
+    } };
 
     ghost invariant = { λ i. IsFormOf i.form i.bytes.items };
 }

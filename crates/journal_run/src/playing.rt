@@ -24,8 +24,8 @@ fn push(out: &mut Vec<u8>, bytes: &[u8]) -> Result<(), Stopped>
     }
 }
 
-/// Plays as many frames as `frames` has, from a place on, and puts the samples that are heard at the end of `out`. The
-/// buffers are written over.
+/// Plays as many frames as `frames` has, from a place on, and puts the samples that are heard at
+/// the end of `out`. The buffers are written over.
 fn play_span(
     engine: &mut Engine,
     out: &mut Vec<u8>,
@@ -37,11 +37,14 @@ fn play_span(
 ) -> Result<(), Stopped>
     requires within { from + length frames.old ≤ length input.now.frames }
     requires heard { length heard.old ≡ length frames.old }
-    requires bytes { length bytes.old ≡ samples_size (length frames.old) input.now.channels input.now.bits }
+    requires bytes { length bytes.old ≡ samples_size (length frames.old) input.now.channels
+        input.now.bits }
     requires limit { engine.old.frames + length frames.old ≤ max_session_frames }
-    ensures engine { engine.new ≡ went_on (span_of from (length frames.old) input.now.frames) engine.old }
+    ensures engine { engine.new ≡ went_on (span_of from (length frames.old) input.now.frames)
+        engine.old }
     ensures memory { IfErr result (λ why. why ≡ NoMemory) }
-    ensures out { OnOk result (out.new.items ≡ out.old.items ++ samples input.now.channels input.now.bits
+    ensures out { OnOk result
+        (out.new.items ≡ out.old.items ++ samples input.now.channels input.now.bits
         (put_out (span_of from (length frames.old) input.now.frames) engine.old)) }
 {
     input.read(from, frames);
@@ -63,14 +66,17 @@ pub fn play_to(
 ) -> Result<(), Stopped>
     requires some { 1 ≤ length frames.old }
     requires heard { length heard.old ≡ length frames.old }
-    requires bytes { length bytes.old ≡ samples_size (length frames.old) input.now.channels input.now.bits }
+    requires bytes { length bytes.old ≡ samples_size (length frames.old) input.now.channels
+        input.now.bits }
     requires order { from ≤ until }
     requires within { until ≤ length input.now.frames }
     requires done { engine.old.frames ≡ from }
     requires limit { length input.now.frames ≤ max_session_frames }
     ensures memory { IfErr result (λ why. why ≡ NoMemory) }
-    ensures engine { OnOk result (engine.new ≡ went_on (span_of from (until - from) input.now.frames) engine.old) }
-    ensures out { OnOk result (out.new.items ≡ out.old.items ++ samples input.now.channels input.now.bits
+    ensures engine { OnOk result
+        (engine.new ≡ went_on (span_of from (until - from) input.now.frames) engine.old) }
+    ensures out { OnOk result
+        (out.new.items ≡ out.old.items ++ samples input.now.channels input.now.bits
         (put_out (span_of from (until - from) input.now.frames) engine.old)) }
 {
     let size = input.channels() as usize * (input.bits() as usize / 8);

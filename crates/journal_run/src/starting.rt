@@ -35,7 +35,8 @@ fn begin(alloc: Global, setup: &Setup, initial: Initial) -> Result<Engine, PlayF
     requires some { 1 ≤ setup.now.quota }
     requires quota { setup.now.quota ≤ max_quota }
     ensures value { Begins setup.now initial result }
-    ensures limit { IsErrOf result PlayFault.Limit ↔ (setup.now.chunks < used (map length initial)) }
+    ensures limit { IsErrOf result PlayFault.Limit ↔
+        (setup.now.chunks < used (map length initial)) }
 {
     match Engine::new(alloc, setup, &initial) {
         Ok(engine) => Ok(engine),
@@ -44,8 +45,9 @@ fn begin(alloc: Global, setup: &Setup, initial: Initial) -> Result<Engine, PlayF
     }
 }
 
-/// Plays the entries of a journal over the input, from these settings and the list of each loop, with so many chunks of 4096 frames (32768
-/// at most) and at most `period` frames at a time. The quota is the least that the entries need.
+/// Plays the entries of a journal over the input, from these settings and the list of each loop,
+/// with so many chunks of 4096 frames (32768 at most) and at most `period` frames at a time. The
+/// quota is the least that the entries need.
 #[tactic(auto, using(crate::proofs::JournalLemmas::journal_has_room, crate::proofs::JournalLemmas::journal_is_short))]
 pub fn play<P: Keeper>(
     alloc: Global,
@@ -64,7 +66,8 @@ pub fn play<P: Keeper>(
     requires period { 1 ≤ period }
     requires within { period ≤ max_period }
     ensures reads { P.read_faults keeper.new ≡ P.read_faults keeper.old }
-    ensures value { Plays P.Keeper entries.now input.now (start settings chunks initial) keeper.old keeper.new result }
+    ensures value { Plays P.Keeper entries.now input.now (start settings chunks initial) keeper.old
+        keeper.new result }
     ensures limit { IsErrOf result PlayFault.Limit ↔ (chunks < used (map length initial)) }
 {
     let rate = settings.rate;

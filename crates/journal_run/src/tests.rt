@@ -19,7 +19,8 @@ const PHRASE: &[u8] =
 const HEARD: &[u8] =
     b"RIFF\x40\0\0\0WAVEfmt \x10\0\0\0\x01\0\x01\0\x80\xbb\0\0\0\x77\x01\0\x02\0\x10\0data\x1c\0\0\0\0\0\0\0\0\0\0\0\x01\0\x02\0\x03\0\x04\0\x01\0\0\0\0\0\0\0\0\0\0\0";
 
-/// The phrase is saved while it plays, undone, and another is recorded; a second save waits for the first one's release.
+/// The phrase is saved while it plays, undone, and another is recorded; a second save waits for the
+/// first one's release.
 const JOURNAL: &[u8] =
     b"looper journal 1\n0 0 0 hit 0 record\n4 0 1 hit 0 record\n8 0 2 save 0 take.wav\n9 0 3 hit 0 undo\n9 0 4 hit 0 record\n10 0 5 save 0 other.wav\n12 2 0 release 0 0\n12 0 6 get 0 loop_len\nend\n";
 

@@ -24,7 +24,8 @@ fn write_reply(text: &mut String, reply: &Reply) -> Result<(), AllocError>
 
 /// Writes the line of a reply where there is one.
 pub fn write_answer(text: &mut String, answer: Option<Reply>) -> Result<(), AllocError>
-    ensures { OnOk result (string_bytes text.new ≡ string_bytes text.old ++ reply_lines (option_to_list answer)) }
+    ensures { OnOk result
+        (string_bytes text.new ≡ string_bytes text.old ++ reply_lines (option_to_list answer)) }
 {
     match answer {
         Some(reply) => write_reply(text, &reply),
@@ -41,7 +42,8 @@ pub fn write_numbers(
     saves: u32,
     refused: u64,
 ) -> Result<(), AllocError>
-    ensures { OnOk result (string_bytes text.new ≡ string_bytes text.old ++ numbers_line frames entries replies saves refused) }
+    ensures { OnOk result (string_bytes text.new ≡ string_bytes text.old
+        ++ numbers_line frames entries replies saves refused) }
 {
     write!(text, "frames {frames} entries {entries} ")?;
     write!(text, "replies {replies} saves {saves} refused {refused}\n")

@@ -14,5 +14,11 @@ owns-none p n le = record {
   fits = le;
 }
 
-pub idle-new : (h : Held) (p : PoolOf) (n : ℕ) → h ≡ record { stack = empty_stack; writing = false; tape = record { chunks = []; len = 0; room = n } } → p.all ≤ n → IsIdle h p
+pub idle-new : (h : Held) (p : PoolOf) (n : ℕ) →
+    h ≡ record {
+      stack = empty_stack;
+      writing = false;
+      tape =
+          record { chunks = []; len = 0; room = n };
+    } → p.all ≤ n → IsIdle h p
 idle-new h p n e f = rw e (record { closed = refl; owns = owns-none p n f })

@@ -14,7 +14,8 @@ use sl_base::Frame;
 /// Undo and redo go to and fro this often between two looks at the clock.
 const TURNS: u32 = 1000;
 
-/// A first layer of so many frames, and the time of one frame at its end. None where it isn't there.
+/// A first layer of so many frames, and the time of one frame at its end. None where it isn't
+/// there.
 pub fn record(rt: &HostRuntime, layers: &mut Layers, pool: &mut Pool, frames: u32) -> Option<u64>
     requires { IsIdle layers.old pool.old }
     ensures { IsIdle layers.new pool.new }
@@ -195,7 +196,8 @@ pub fn pin(rt: &HostRuntime, layers: &mut Layers, pool: &Pool, times: u32) -> u6
     best
 }
 
-/// A read of one frame with the search for it, forward or backward. It also gives the sum that was read.
+/// A read of one frame with the search for it, forward or backward. It also gives the sum that was
+/// read.
 pub fn reads(
     rt: &HostRuntime,
     layers: &mut Layers,

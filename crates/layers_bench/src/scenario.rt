@@ -16,7 +16,8 @@ use sl_base::{Frame, MAX_LIST_FRAMES};
 /// Frames that are read one by one, at most.
 const READ: u32 = 65536;
 
-/// How large: the frames of the list, the single frames that are written over its second half, and the times of each measure.
+/// How large: the frames of the list, the single frames that are written over its second half, and
+/// the times of each measure.
 #[derive(Clone, Copy)]
 pub struct Size {
     pub frames: u32,

@@ -16,7 +16,8 @@ fn frame(number: u32) -> Frame {
     }
 }
 
-/// Opens a layer, as a copy or empty. False where that is refused, or where there is no layer to copy.
+/// Opens a layer, as a copy or empty. False where that is refused, or where there is no layer to
+/// copy.
 pub fn open(layers: &mut Layers, pool: &mut Pool, empty: bool) -> bool
     requires { IsIdle layers.old pool.old }
     ensures ok { IsTrue result → IsWriting layers.new pool.new }

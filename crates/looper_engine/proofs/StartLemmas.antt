@@ -11,15 +11,27 @@ use Rattle.looper_rules.specs.Reached.{AreLists, IsBeginning, KeepsLooper}
 use Rattle.looper_laws.proofs.Kept.Starts.{begins}
 use Rattle.looper_laws.proofs.Saves.Owners.{first-holds}
 
-pub beginning : (settings : LooperSettings) (chunks : ℕ) (lists : List (List Sound)) → IsTrue (are_settings settings) → AreLists settings.strips lists → (chunks < used (map length lists) → ⊥) →
+pub beginning : (settings : LooperSettings) (chunks : ℕ) (lists : List (List Sound)) →
+    IsTrue (are_settings settings) → AreLists settings.strips lists →
+    (chunks < used (map length lists) → ⊥) →
     IsBeginning settings chunks lists
-beginning settings chunks lists valid agree fits = record { in_range = valid; lengths = agree; fits = (let less : chunks < used (map length lists) → ⊥ = fits in omega arith) }
+beginning settings chunks lists valid agree fits =
+    record {
+      in_range = valid;
+      lengths = agree;
+      fits =
+          (let less : chunks < used (map length lists) → ⊥ = fits in omega arith);
+    }
 
-pub start_kept : (settings : LooperSettings) (chunks : ℕ) (lists : List (List Sound)) (l : Looper) → l ≡ start settings chunks lists → IsBeginning settings chunks lists → KeepsLooper 0 l
-start_kept settings chunks lists l is h = subst (KeepsLooper 0) (sym is) (begins settings chunks lists h)
+pub start_kept : (settings : LooperSettings) (chunks : ℕ) (lists : List (List Sound)) (l : Looper) →
+    l ≡ start settings chunks lists → IsBeginning settings chunks lists → KeepsLooper 0 l
+start_kept settings chunks lists l is h =
+    subst (KeepsLooper 0) (sym is) (begins settings chunks lists h)
 
-pub start_free : (settings : LooperSettings) (chunks : ℕ) (lists : List (List Sound)) (l : Looper) → l ≡ start settings chunks lists → HoldPins [] (holds_of l)
-start_free settings chunks lists l is = subst (λ (x : Looper). HoldPins [] (holds_of x)) (sym is) (first-holds settings.strips lists)
+pub start_free : (settings : LooperSettings) (chunks : ℕ) (lists : List (List Sound)) (l : Looper) →
+    l ≡ start settings chunks lists → HoldPins [] (holds_of l)
+start_free settings chunks lists l is =
+    subst (λ (x : Looper). HoldPins [] (holds_of x)) (sym is) (first-holds settings.strips lists)
 
 -- what holds at any rate holds of each result
 pub at_any_rate : {A E : Type 0} (r : Result A E) (P : Type 0) → P → IfOk r (λ x. P)

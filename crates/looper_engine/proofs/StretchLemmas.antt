@@ -23,18 +23,24 @@ use Rattle.looper_engine.specs.Stretches.{in_one, went_on_in, put_out_in, with_m
 went_on-none : (e : EngineOf) → went_on [] e ≡ e
 went_on-none e = ap (λ n. let x : EngineOf = record e { frames = n } in x) (add-zero e.frames)
 
-pub went_on-in_one : (stretches : List (List Sound)) (e : EngineOf) → went_on (in_one stretches) e ≡ went_on_in stretches e
+pub went_on-in_one : (stretches : List (List Sound)) (e : EngineOf) →
+    went_on (in_one stretches) e ≡ went_on_in stretches e
 went_on-in_one [] e = went_on-none e
-went_on-in_one (xs ∷ stretches) e = went_on-append xs (in_one stretches) e ∙ went_on-in_one stretches (went_on xs e)
+went_on-in_one (xs ∷ stretches) e = went_on-append xs (in_one stretches) e
+    ∙ went_on-in_one stretches (went_on xs e)
 
-pub put_out-in_one : (stretches : List (List Sound)) (e : EngineOf) → put_out (in_one stretches) e ≡ put_out_in stretches e
+pub put_out-in_one : (stretches : List (List Sound)) (e : EngineOf) →
+    put_out (in_one stretches) e ≡ put_out_in stretches e
 put_out-in_one [] e = refl
 put_out-in_one (xs ∷ stretches) e =
-    put_out-append xs (in_one stretches) e ∙ ap (λ out. put_out xs e ++ out) (put_out-in_one stretches (went_on xs e))
+    put_out-append xs (in_one stretches) e
+    ∙ ap (λ out. put_out xs e ++ out) (put_out-in_one stretches (went_on xs e))
 
 pub more_loops_sound :
-    (b : Beginning) (more : List StripSettings) (s now : SoFar) (e with : EngineOf) → IsBeginning b.settings b.chunks b.initial →
-    IsInStep b s e → IsInStep (with_more_loops more b) now with → with.journal.entries ≡ e.journal.entries → now.input ≡ s.input →
+    (b : Beginning) (more : List StripSettings) (s now : SoFar) (e with : EngineOf) →
+    IsBeginning b.settings b.chunks b.initial →
+    IsInStep b s e → IsInStep (with_more_loops more b) now with →
+    with.journal.entries ≡ e.journal.entries → now.input ≡ s.input →
     All (SpeaksOf (length b.settings.strips)) e.journal.entries → now.output ≡ s.output
 more_loops_sound b more s now e with begins fewer greater same_entries same_input speaks =
     let wide = first_looper (with_more_loops more b)
@@ -43,15 +49,21 @@ more_loops_sound b more s now e with begins fewer greater same_entries same_inpu
     ∙ more_loops b.settings more b.chunks b.initial e.journal.entries s.input begins speaks
     ∙ ap (λ (r : Ran). r.output) fewer.ran
 
-pub left-took : (en : Entry) (e : EngineOf) → IsPart e.sending e.part → left (took en e) ≡ left e ++ blocks_for_all (option_to_list (save en e.looper))
+pub left-took : (en : Entry) (e : EngineOf) → IsPart e.sending e.part →
+    left (took en e) ≡ left e ++ blocks_for_all (option_to_list (save en e.looper))
 left-took en e part = left_more e.part e.sending (option_to_list (save en e.looper)) part
 
-pub left-made : (en : Entry) (e : EngineOf) (made : Save) → IsPart e.sending e.part → save en e.looper ≡ Some made → left (took en e) ≡ left e ++ blocks_of_save made
+pub left-made : (en : Entry) (e : EngineOf) (made : Save) → IsPart e.sending e.part →
+    save en e.looper ≡ Some made → left (took en e) ≡ left e ++ blocks_of_save made
 left-made en e made part is =
-    left-took en e part ∙ ap (λ o. left e ++ blocks_for_all (option_to_list o)) is ∙ ap (λ bs. left e ++ bs) (append-nil (blocks_of_save made))
+    left-took en e part ∙ ap (λ o. left e ++ blocks_for_all (option_to_list o)) is
+    ∙ ap (λ bs. left e ++ bs) (append-nil (blocks_of_save made))
 
-pub saves_met : (b : Beginning) (s : SoFar) (e : EngineOf) → IsTrue (are_stamped e.journal.entries) → IsInStep b s e →
+pub saves_met : (b : Beginning) (s : SoFar) (e : EngineOf) →
+    IsTrue (are_stamped e.journal.entries) → IsInStep b s e →
     All (ComesWithEntry save e.journal.entries s.input (first_looper b)) s.saves
 saves_met b s e stamped h =
-    subst (λ (r : Ran). All (ComesWithEntry save e.journal.entries s.input (first_looper b)) r.saves) h.ran
-    (saves_come e.journal.entries s.input (first_looper b) (stamped_never_fall e.journal.entries stamped))
+    subst (λ (r : Ran). All (ComesWithEntry save e.journal.entries s.input (first_looper b))
+    r.saves) h.ran
+    (saves_come e.journal.entries s.input (first_looper b)
+    (stamped_never_fall e.journal.entries stamped))

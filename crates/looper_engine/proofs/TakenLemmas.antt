@@ -44,7 +44,7 @@ without_lists s =
 made_of_loop : (refusal : Option ℕ) (t : Option Track) (target : Target) (name : List ℕ)
     (l : Looper) →
     (let s = unless_refused refusal (option_map (loop_save target name l) t)
-        in if is_some s then asked_by (SaveLoop target name) l else None)
+    in if is_some s then asked_by (SaveLoop target name) l else None)
     ≡ option_map without_lists (unless_refused refusal (option_map (loop_save target name l) t))
 made_of_loop (Some n) t target name l = refl
 made_of_loop None None target name l = refl
@@ -52,7 +52,7 @@ made_of_loop None (Some t) target name l = refl
 
 made_of_session : (refusal : Option ℕ) (name : List ℕ) (l : Looper) →
     (let s = unless_refused refusal (Some (session_save name l))
-        in if is_some s then asked_by (SaveSession name) l else None)
+    in if is_some s then asked_by (SaveSession name) l else None)
     ≡ option_map without_lists (unless_refused refusal (Some (session_save name l)))
 made_of_session (Some n) name l = refl
 made_of_session None name l = refl
@@ -75,7 +75,7 @@ made_by Quit l = refl
 
 made_if : (taken : Bool) (command : Command) (l : Looper) →
     (let s = if taken then save_of command l else None
-        in if is_some s then asked_by command l else None)
+    in if is_some s then asked_by command l else None)
     ≡ option_map without_lists (if taken then save_of command l else None)
 made_if true command l = made_by command l
 made_if false command l = refl
@@ -88,7 +88,7 @@ made_is en l = made_if (is_taken en l) en.command l
 -- the saves that a release leaves, with their lists
 held_left : (l : Looper) (target : Target) (ps : List Pending) →
     held_saves l (left_by target ps)
-        ≡ filter (λ (s : Save). not (answers target s.target)) (held_saves l ps)
+    ≡ filter (λ (s : Save). not (answers target s.target)) (held_saves l ps)
 held_left l target [] = refl
 held_left l target (p ∷ ps) = by_test (answers target p.target) (held_left l target ps)
   where
@@ -97,8 +97,8 @@ held_left l target (p ∷ ps) = by_test (answers target p.target) (held_left l t
         ≡ filter (λ (s : Save). not (answers target s.target)) (held_saves l ps) →
         held_saves l (if not b then p ∷ left_by target ps else left_by target ps)
         ≡ (if not b then held_save l p ∷ filter (λ (s : Save). not (answers target s.target))
-            (held_saves l ps) else filter (λ (s : Save). not (answers target s.target))
-            (held_saves l ps))
+        (held_saves l ps) else filter (λ (s : Save). not (answers target s.target))
+        (held_saves l ps))
     by_test true rest = rest
     by_test false rest = ap (λ ss. held_save l p ∷ ss) rest
 
@@ -119,13 +119,13 @@ settled_due l Quit q = refl
 
 settled_if : (taken : Bool) (l : Looper) (command : Command) (q : QueueOf) →
     held_saves l (settled (if taken then target_in command else None) q).due
-        ≡ (if taken then still_unanswered command (held_saves l q.due) else held_saves l q.due)
+    ≡ (if taken then still_unanswered command (held_saves l q.due) else held_saves l q.due)
 settled_if true l command q = settled_due l command q
 settled_if false l command q = refl
 
 pub settled_is : (en : Entry) (l : Looper) (q : QueueOf) →
     held_saves l (settled (released_by en.sender en.command (length l.tracks)) q).due
-        ≡ left_unanswered en l (held_saves l q.due)
+    ≡ left_unanswered en l (held_saves l q.due)
 settled_is en l q = settled_if (is_taken en l) l en.command q
 
 -- the saves behind an entry, by the fields
@@ -156,14 +156,14 @@ pub taken_held : (en : Entry) (e : EngineOf) → ClearsSent en e → IsEngine e 
     HoldPins (waiting (took en e)) (holds_of (applied e.frames en e.looper))
 taken_held en e clears is =
     subst (λ saves. HoldPins saves (holds_of (applied e.frames en e.looper)))
-        (sym (waiting_took en e clears))
-        (applied-holds e.frames en e.looper (waiting e) is.kept is.held)
+    (sym (waiting_took en e clears))
+    (applied-holds e.frames en e.looper (waiting e) is.kept is.held)
 
 pub taken_apart : (en : Entry) (e : EngineOf) → ClearsSent en e → IsEngine e →
     AreAllApart (waiting (took en e))
 taken_apart en e clears is =
     subst AreAllApart (sym (waiting_took en e clears))
-        (after_apart e.frames en e.looper (waiting e) is.kept is.held is.apart)
+    (after_apart e.frames en e.looper (waiting e) is.kept is.held is.apart)
 
 -- the one save that was made has the lists that are pinned now
 made_held : (now : Looper) (made : Option Save) → AreHeld now (option_to_list made) →
@@ -190,49 +190,54 @@ due_taken en l now q held =
 sending_taken : (en : Entry) (l now : Looper) (q : QueueOf) → AreHeld now (held_saves l q.sending) →
     AreHeld now (option_to_list (save en l)) →
     held_saves now (queue_taken en l q).sending
-        ≡ held_saves l q.sending ++ option_to_list (save en l)
+    ≡ held_saves l q.sending ++ option_to_list (save en l)
 sending_taken en l now q held made =
     let released = released_by en.sender en.command (length l.tracks)
     in ap (held_saves now)
-        (joined_sending (option_map without_lists (save en l)) (settled released q)
-        ∙ ap (λ ps. ps ++ option_to_list (option_map without_lists (save en l)))
-        (settled_sending released q))
+    (joined_sending (option_map without_lists (save en l)) (settled released q)
+    ∙ ap (λ ps. ps ++ option_to_list (option_map without_lists (save en l)))
+    (settled_sending released q))
     ∙ map-append (held_save now) q.sending (option_to_list (option_map without_lists (save en l)))
     ∙ ap₂ (λ xs ys. xs ++ ys) (held_saves-still l now q.sending held)
-        (made_held now (save en l) made)
+    (made_held now (save en l) made)
 
 part_taken : (en : Entry) (l : Looper) (q : QueueOf) → (queue_taken en l q).part ≡ q.part
 part_taken en l q =
     joined_part (option_map without_lists (save en l))
-        (settled (released_by en.sender en.command (length l.tracks)) q)
+    (settled (released_by en.sender en.command (length l.tracks)) q)
     ∙ settled_part (released_by en.sender en.command (length l.tracks)) q
 
 same_engine : (l : Looper) (j : JournalOf) (frames : ℕ) (due due' sending sending' : List Save)
     (part part' : ℕ) → due ≡ due' → sending ≡ sending' → part ≡ part' →
     record { looper = l; journal = j; frames = frames; due = due; sending = sending; part = part }
     ≡ (let e : EngineOf =
-        record {
-          looper = l; journal = j; frames = frames; due = due'; sending = sending'; part = part'
-        } in e)
+    record {
+      looper = l;
+      journal = j;
+      frames = frames;
+      due = due';
+      sending = sending';
+      part = part';
+    } in e)
 same_engine l j frames due due' sending sending' part part' a b c = cc
 
 pub took_is : (en : Entry) (l : Looper) (j : JournalOf) (frames : ℕ) (q : QueueOf) →
     ClearsSent en (engine_of l j frames q) → IsEngine (engine_of l j frames q) →
     engine_of (applied frames en l) (record j { entries = j.entries ++ en ∷ [] }) frames
-        (queue_taken en l q) ≡ took en (engine_of l j frames q)
+    (queue_taken en l q) ≡ took en (engine_of l j frames q)
 took_is en l j frames q clears is =
     let e = engine_of l j frames q
     in let now = applied frames en l
     in let held = (taken_held en e clears is).held
     in let sent : AreHeld now (held_saves l q.sending ++ option_to_list (save en l)) =
-        all_right (λ s. IsHeld s.target s.lists (holds_of now)) (left_unanswered en l e.due) _ held
+    all_right (λ s. IsHeld s.target s.lists (holds_of now)) (left_unanswered en l e.due) _ held
     in same_engine now (record j { entries = j.entries ++ en ∷ [] }) frames _ _ _ _ _ _
     (due_taken en l now q
-        (all_left (λ s. IsHeld s.target s.lists (holds_of now)) (left_unanswered en l e.due) _
-        held))
+    (all_left (λ s. IsHeld s.target s.lists (holds_of now)) (left_unanswered en l e.due) _
+    held))
     (sending_taken en l now q
-        (all_left (λ s. IsHeld s.target s.lists (holds_of now)) (held_saves l q.sending) _ sent)
-        (all_right (λ s. IsHeld s.target s.lists (holds_of now)) (held_saves l q.sending) _ sent))
+    (all_left (λ s. IsHeld s.target s.lists (holds_of now)) (held_saves l q.sending) _ sent)
+    (all_right (λ s. IsHeld s.target s.lists (holds_of now)) (held_saves l q.sending) _ sent))
     (part_taken en l q)
 
 -- how many saves the entries of a sender may make
@@ -304,7 +309,7 @@ saves_applied frame en l = by_taken (is_taken en l) refl
 -- the next numbers of the senders 0 and 1 behind an entry
 next_seqs : (sender : ℕ) (es : List Entry) (en : Entry) → en.sender ≡ sender →
     next_seq 0 (es ++ en ∷ []) + next_seq 1 (es ++ en ∷ [])
-        ≡ next_seq 0 es + next_seq 1 es + asks_of sender
+    ≡ next_seq 0 es + next_seq 1 es + asks_of sender
 next_seqs sender es en is =
     ap₂ (λ m n. m + n) (seq_more 0 es en) (seq_more 1 es en)
     ∙ by_sender sender is
@@ -316,25 +321,25 @@ next_seqs sender es en is =
 
     by_sender : (n : ℕ) → en.sender ≡ n →
         next_seq 0 es + length
-            (entries_of 0 (en ∷ [])) + (next_seq 1 es + length (entries_of 1 (en ∷ [])))
-            ≡ next_seq 0 es + next_seq 1 es + asks_of n
+        (entries_of 0 (en ∷ [])) + (next_seq 1 es + length (entries_of 1 (en ∷ [])))
+        ≡ next_seq 0 es + next_seq 1 es + asks_of n
     by_sender zero here =
         let first : length (entries_of 0 (en ∷ [])) ≡ 1 =
-            ap (λ k. length (if k == 0 then en ∷ [] else [])) here
+        ap (λ k. length (if k == 0 then en ∷ [] else [])) here
         in let second : length (entries_of 1 (en ∷ [])) ≡ 0 =
-            ap (λ k. length (if k == 1 then en ∷ [] else [])) here
+        ap (λ k. length (if k == 1 then en ∷ [] else [])) here
         in omega arith
     by_sender (suc zero) here =
         let first : length (entries_of 0 (en ∷ [])) ≡ 0 =
-            ap (λ k. length (if k == 0 then en ∷ [] else [])) here
+        ap (λ k. length (if k == 0 then en ∷ [] else [])) here
         in let second : length (entries_of 1 (en ∷ [])) ≡ 1 =
-            ap (λ k. length (if k == 1 then en ∷ [] else [])) here
+        ap (λ k. length (if k == 1 then en ∷ [] else [])) here
         in omega arith
     by_sender (suc (suc n)) here =
         let other : (k : ℕ) → k < 2 → length (entries_of k (en ∷ [])) ≡ 0 = λ k less.
         ap (λ sender. length (if sender == k then en ∷ [] else [])) here
-            ∙ ap (λ b. length (if b then en ∷ [] else []))
-            (ne_eqb (suc (suc n)) k (λ same. omega arith))
+        ∙ ap (λ b. length (if b then en ∷ [] else []))
+        (ne_eqb (suc (suc n)) k (λ same. omega arith))
         in let first = other 0 (omega arith)
         in let second = other 1 (omega arith)
         in omega arith
@@ -381,28 +386,28 @@ has_place (Some p) q n few all = omega arith
 pub place_is : (en : Entry) (l : Looper) (j : JournalOf) (frames : ℕ) (q : QueueOf) →
     ClearsSent en (engine_of l j frames q) → IsEngine (engine_of l j frames q) →
     HasPlace (option_map without_lists (save en l))
-        (settled (released_by en.sender en.command (length l.tracks)) q)
+    (settled (released_by en.sender en.command (length l.tracks)) q)
 place_is en l j frames q clears is =
     let e = engine_of l j frames q
     in let now = applied frames en l
     in let released = released_by en.sender en.command (length l.tracks)
     in let keeps = entry_keeps frames en l is.kept
     in let wait : length (waiting (took en e)) ≤ length now.tracks =
-        few_wait now (waiting (took en e))
-        (leb-true 1 (length now.tracks) (loop_count frames now keeps).0)
-        (taken_held en e clears is).held (taken_apart en e clears is)
+    few_wait now (waiting (took en e))
+    (leb-true 1 (length now.tracks) (loop_count frames now keeps).0)
+    (taken_held en e clears is).held (taken_apart en e clears is)
     in let few = leb-true (length now.tracks) max_loops (loop_count frames now keeps).1
     in let due : length (settled released q).due ≡ length (left_unanswered en l e.due) =
-        sym (length-map (settled released q).due (held_save l)) ∙ ap length (settled_is en l q)
+    sym (length-map (settled released q).due (held_save l)) ∙ ap length (settled_is en l q)
     in let sending : length (settled released q).sending ≡ length e.sending =
-        ap length (settled_sending released q) ∙ sym (length-map q.sending (held_save l))
+    ap length (settled_sending released q) ∙ sym (length-map q.sending (held_save l))
     in let made : length (option_to_list (option_map without_lists (save en l)))
-        ≡ length (option_to_list (save en l)) = length_made (save en l)
+    ≡ length (option_to_list (save en l)) = length_made (save en l)
     in let all =
-        length-append (left_unanswered en l e.due) (e.sending ++ option_to_list (save en l))
+    length-append (left_unanswered en l e.due) (e.sending ++ option_to_list (save en l))
     in let rest = length-append e.sending (option_to_list (save en l))
     in has_place (option_map without_lists (save en l)) (settled released q) (length now.tracks) few
-        (omega arith)
+    (omega arith)
 
 -- what the fields of an engine that took a command are
 pub record Taken (l now : Looper) (j j' : JournalOf) (frames : ℕ)
@@ -424,64 +429,64 @@ pub record Taken (l now : Looper) (j j' : JournalOf) (frames : ℕ)
 made_taken : (frames sender seq seq' : ℕ) (command : Command) (l : Looper) (made : Option Pending) →
     seq ≡ seq' →
     made ≡ (if is_some
-        (save (record { frame = frames; sender = sender; seq = seq; command = command }) l) then
-        asked_by command l else None) →
+    (save (record { frame = frames; sender = sender; seq = seq; command = command }) l) then
+    asked_by command l else None) →
     made ≡ option_map without_lists
-        (save (record { frame = frames; sender = sender; seq = seq'; command = command }) l)
+    (save (record { frame = frames; sender = sender; seq = seq'; command = command }) l)
 made_taken frames sender seq seq' command l made same is =
     is ∙ ap
-        (λ n.
-        if is_some (save (record { frame = frames; sender = sender; seq = n; command = command }) l)
-        then asked_by command l else None) same
+    (λ n.
+    if is_some (save (record { frame = frames; sender = sender; seq = n; command = command }) l)
+    then asked_by command l else None) same
     ∙ made_is (record { frame = frames; sender = sender; seq = seq'; command = command }) l
 
 pub taken_place : (l : Looper) (j : JournalOf) (frames : ℕ) (q qs : QueueOf) (e : EngineOf)
     (sender seq : ℕ) (command : Command) (made : Option Pending) (released : Option Target) →
     engine_of l j frames q ≡ e → IsEngine (engine_of l j frames q) →
-        ClearsSent (entry_of sender command e) e → seq ≡ next_seq sender j.entries →
+    ClearsSent (entry_of sender command e) e → seq ≡ next_seq sender j.entries →
     made ≡ (if is_some
-        (save (record { frame = frames; sender = sender; seq = seq; command = command }) l) then
-        asked_by command l else None) →
+    (save (record { frame = frames; sender = sender; seq = seq; command = command }) l) then
+    asked_by command l else None) →
     released ≡ released_by sender command (length l.tracks) → qs ≡ settled released q →
-        HasPlace made qs
+    HasPlace made qs
 taken_place l j frames q qs e sender seq command made released view is clears seq_is made_as
     released_is settled_as =
     let en = next_entry frames sender command j.entries
     in let here =
-        place_is en l j frames q
-        (subst (λ (x : EngineOf). ClearsSent (entry_of sender command x) x) (sym view) clears) is
+    place_is en l j frames q
+    (subst (λ (x : EngineOf). ClearsSent (entry_of sender command x) x) (sym view) clears) is
     in let queue : settled (released_by sender command (length l.tracks)) q ≡ qs =
-        ap (λ r. settled r q) (sym released_is) ∙ sym settled_as
+    ap (λ r. settled r q) (sym released_is) ∙ sym settled_as
     in let same : option_map without_lists (save en l) ≡ made =
-        sym (made_taken frames sender seq (next_seq sender j.entries) command l made seq_is made_as)
+    sym (made_taken frames sender seq (next_seq sender j.entries) command l made seq_is made_as)
     in subst (λ m. HasPlace m qs) same
-        (subst (HasPlace (option_map without_lists (save en l))) queue here)
+    (subst (HasPlace (option_map without_lists (save en l))) queue here)
 
 pub taken_is : (l now : Looper) (j j' : JournalOf) (frames : ℕ) (q qs qj : QueueOf) (e : EngineOf)
     (sender seq : ℕ) (command : Command) (made : Option Pending) (released : Option Target) →
     engine_of l j frames q ≡ e → IsEngine (engine_of l j frames q) →
-        ClearsSent (entry_of sender command e) e →
-        Taken l now j j' frames q qs qj sender seq command made released →
+    ClearsSent (entry_of sender command e) e →
+    Taken l now j j' frames q qs qj sender seq command made released →
     engine_of now j' frames qj ≡ took (entry_of sender command e) e
 taken_is l now j j' frames q qs qj e sender seq command made released view is clears t =
     let en = next_entry frames sender command j.entries
     in let looper : now ≡ applied frames en l = t.looper_is
-        ∙ ap
-        (λ n.
-        applied frames (record { frame = frames; sender = sender; seq = n; command = command }) l)
-        t.seq_is
+    ∙ ap
+    (λ n.
+    applied frames (record { frame = frames; sender = sender; seq = n; command = command }) l)
+    t.seq_is
     in let journal : j' ≡ record j { entries = j.entries ++ en ∷ [] } =
-        ap₂ (λ es n. let x : JournalOf = record { entries = es; quota = n } in x) t.entries_are
-        t.quota_is
+    ap₂ (λ es n. let x : JournalOf = record { entries = es; quota = n } in x) t.entries_are
+    t.quota_is
     in let same : made ≡ option_map without_lists (save en l) =
-        made_taken frames sender seq (next_seq sender j.entries) command l made t.seq_is t.made_as
+    made_taken frames sender seq (next_seq sender j.entries) command l made t.seq_is t.made_as
     in let queue : qj ≡ queue_taken en l q = t.joined_as
-        ∙ ap₂ (λ m x. joined m x) same (t.settled_as ∙ ap (λ r. settled r q) t.released_is)
+    ∙ ap₂ (λ m x. joined m x) same (t.settled_as ∙ ap (λ r. settled r q) t.released_is)
     in ap₂ (λ (m : Looper) (x : JournalOf). engine_of m x frames qj) looper journal
     ∙ ap (λ x. engine_of (applied frames en l) (record j { entries = j.entries ++ en ∷ [] }) frames
-        x) queue
+    x) queue
     ∙ took_is en l j frames q
-        (subst (λ (x : EngineOf). ClearsSent (entry_of sender command x) x) (sym view) clears) is
+    (subst (λ (x : EngineOf). ClearsSent (entry_of sender command x) x) (sym view) clears) is
     ∙ ap (λ (x : EngineOf). took (entry_of sender command x) x) view
 
 pub taken_keeps : (sender : ℕ) (command : Command) (e : EngineOf) →
@@ -492,13 +497,13 @@ taken_keeps sender command e clears is = took_keeps (entry_of sender command e) 
 pub taken_steps : (sender : ℕ) (command : Command) (e now : EngineOf) (answer : Option Reply) →
     ClearsSent (entry_of sender command e) e → now ≡ took (entry_of sender command e) e →
     answer ≡ reply (entry_of sender command e) e.looper → (b : Beginning) → (s : SoFar) →
-        IsInStep b s e →
+    IsInStep b s e →
     IsInStep b (with_taken answer (save (entry_of sender command e) e.looper) s) now
 taken_steps sender command e now answer clears is answers b s h =
     let en = entry_of sender command e
     in subst (λ x. IsInStep b (with_taken answer (save en e.looper) s) x) (sym is)
     (subst (λ a. IsInStep b (with_taken a (save en e.looper) s) (took en e)) (sym answers)
-        (took_in_step b s en e refl clears h))
+    (took_in_step b s en e refl clears h))
 
 -- there is a number for one more save
 pub saves_fit : (e : EngineOf) (quota : ℕ) → IsEngine e → next_seq 0 e.journal.entries ≤ quota →

@@ -1,6 +1,7 @@
--- The fields of an engine make an engine of the rules: its saves have the lists that the pins hold. It keeps what always
--- holds of a looper, the pins that stand are those of its saves, and these are of different loops. No entry is later than
--- the frames that are done, and each save was asked for by an entry of the senders 0 and 1.
+-- The fields of an engine make an engine of the rules: its saves have the lists that the pins hold.
+-- It keeps what always holds of a looper, the pins that stand are those of its saves, and these are
+-- of different loops. No entry is later than the frames that are done, and each save was asked for
+-- by an entry of the senders 0 and 1.
 -- "States: what always holds" and "Saves" in docs/rules.md.
 use Rattle.std.specs.Prelude.{◌≤◌, ℕ, ◌+◌}
 use Rattle.sl_base.specs.Limits.{max_session_frames}

@@ -1,5 +1,5 @@
--- A save that waits keeps no list of its own: its lists are those that the pins hold. The save of a loop has the list of that
--- loop's pin, and the save of a session has those of all pins, by index.
+-- A save that waits keeps no list of its own: its lists are those that the pins hold. The save of a
+-- loop has the list of that loop's pin, and the save of a session has those of all pins, by index.
 -- "Saves" in docs/rules.md.
 use Rattle.std.specs.Prelude.{◌≡◌, ◌≤◌, ◌<◌, ⊤, ℕ, ◌+◌, List, [], ◌∷◌, length, map, slice_index_or, IsTrue}
 use Rattle.sl_base.specs.Limits.{max_loops}
@@ -29,13 +29,21 @@ lists_for Selected l = []
 
 -- the save with the lists that the pins hold
 abbrev pub held_save : Looper → Pending → Save
-held_save l p = record { number = p.number; target = p.target; name = p.name; settings = p.settings; lists = lists_for p.target l }
+held_save l p = record {
+  number = p.number;
+  target = p.target;
+  name = p.name;
+  settings =
+      p.settings;
+  lists = lists_for p.target l;
+}
 
 -- those of some saves
 abbrev pub held_saves : Looper → List Pending → List Save
 held_saves l ps = map (held_save l) ps
 
--- the lists of a save with this target can be read: a release can name it, and there are 16 loops at most
+-- the lists of a save with this target can be read: a release can name it, and there are 16 loops
+-- at most
 pub record CanRead (target : Target) (l : Looper) : Type 0 where
   pub named : IsTrue (is_release_target (length l.tracks) target)
   pub few : length l.tracks ≤ max_loops

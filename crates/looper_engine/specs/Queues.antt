@@ -1,5 +1,6 @@
--- The saves that no release has answered, without their lists: those that are due to be answered, and behind them those
--- whose blocks are still sent, of the first of which some blocks were sent. At most as many of them wait at a time as there may be loops.
+-- The saves that no release has answered, without their lists: those that are due to be answered,
+-- and behind them those whose blocks are still sent, of the first of which some blocks were sent.
+-- At most as many of them wait at a time as there may be loops.
 -- "Saves" and "Blocks of a save" in docs/rules.md.
 use Rattle.std.specs.Prelude.{◌≤◌, ◌<◌, ⊤, ℕ, ◌+◌, ◌==◌, Bool, true, false, not, ◌&&◌, if◌then◌else◌, List, [], ◌∷◌, ◌++◌, length, filter, Option, Some, None}
 use Rattle.sl_base.specs.Limits.{max_loops}
@@ -69,11 +70,18 @@ target_in _ = None
 
 -- the target that a command of this sender releases, where it is valid for so many loops
 abbrev pub released_by : ℕ → Command → ℕ → Option Target
-released_by sender command loops = if is_sender sender command && is_allowed loops command then target_in command else None
+released_by sender command loops = if is_sender sender command && is_allowed loops command then
+    target_in command else None
 
 -- the save for which a command asks, without its lists
 abbrev pub asked_by : Command → Looper → Option Pending
 asked_by (SaveLoop target name) l =
-    Some (record { number = l.saves; target = One (index_of target l.globals.selected_loop_num); name = name; settings = settings_of l })
-asked_by (SaveSession name) l = Some (record { number = l.saves; target = All; name = name; settings = settings_of l })
+    Some (record {
+      number = l.saves;
+      target = One (index_of target l.globals.selected_loop_num);
+      name = name;
+      settings = settings_of l;
+    })
+asked_by (SaveSession name) l =
+    Some (record { number = l.saves; target = All; name = name; settings = settings_of l })
 asked_by _ l = None

@@ -49,17 +49,19 @@ impl Model for Engine {
 }
 
 impl Engine {
-    /// An engine before all frames and entries, with the list of each loop by index; loops without one begin empty. Only
-    /// this call takes memory.
+    /// An engine before all frames and entries, with the list of each loop by index; loops without
+    /// one begin empty. Only this call takes memory.
     pub fn new(alloc: Global, setup: &Setup, initial: &Initial) -> Result<Engine, EngineFault>
         requires lists { AreLists setup.now.settings.strips initial.now }
         requires chunks { setup.now.chunks ≤ max_chunks }
         requires some { 1 ≤ setup.now.quota }
         requires quota { setup.now.quota ≤ max_quota }
         ensures value { IfOk result (λ e. e ≡ first_engine (beginning_of setup.now initial.now)) }
-        ensures begins { IfOk result (λ e. IsBeginning setup.now.settings setup.now.chunks initial.now) }
+        ensures begins { IfOk result
+            (λ e. IsBeginning setup.now.settings setup.now.chunks initial.now) }
         ensures in_step { IfOk result (λ e. IsInStep (beginning_of setup.now initial.now) nothing e) }
-        ensures limit { IsErrOf result EngineFault.Limit ↔ (setup.now.chunks < used (map length initial.now)) }
+        ensures limit { IsErrOf result EngineFault.Limit ↔
+            (setup.now.chunks < used (map length initial.now)) }
     {
         let _loops = setup.loops();
         match Lanes::new(alloc, &setup.settings, setup.chunks, initial.as_slice()) {
@@ -76,7 +78,8 @@ impl Engine {
         requires none { lanes.saves ≡ 0 }
         requires some { 1 ≤ quota }
         requires quota { quota ≤ max_quota }
-        ensures value { IfOk result (λ e. e ≡ engine_of lanes (record { entries = []; quota = quota }) 0 empty_queue) }
+        ensures value { IfOk result
+            (λ e. e ≡ engine_of lanes (record { entries = []; quota = quota }) 0 empty_queue) }
         ensures limit { result ≢ Err Limit }
     {
         match Journal::with_quota(alloc, quota) {
@@ -102,15 +105,17 @@ impl Engine {
         let _quota = self.journal.quota();
     }
 
-    /// Stamps this command of this sender with the number of frames done, applies it, and gives the reply. Senders are 0
-    /// for OSC, 1 for MIDI and 2 for the saver. What isn't valid is stamped and changes nothing else.
+    /// Stamps this command of this sender with the number of frames done, applies it, and gives the
+    /// reply. Senders are 0 for OSC, 1 for MIDI and 2 for the saver. What isn't valid is stamped
+    /// and changes nothing else.
     pub fn take(&mut self, sender: u8, command: Command) -> Option<Reply>
         requires room { HasRoom sender self.old.journal }
         requires clears { ClearsSent (entry_of sender command self.old) self.old }
         ensures took { self.new ≡ took (entry_of sender command self.old) self.old }
         ensures reply { result ≡ reply (entry_of sender command self.old) self.old.looper }
         ensures in_step { (b : Beginning) → (s : SoFar) → IsInStep b s self.old →
-            IsInStep b (with_taken result (save (entry_of sender command self.old) self.old.looper) s) self.new }
+            IsInStep b (with_taken result (save (entry_of sender command self.old) self.old.looper)
+            s) self.new }
     {
         self.check_saves();
         let asked = asked_by(&self.lanes, &command);
@@ -129,7 +134,8 @@ impl Engine {
         requires limit { self.old.frames + length input.now ≤ max_session_frames }
         ensures engine { self.new ≡ went_on input.now self.old }
         ensures output { output.new ≡ put_out input.now self.old }
-        ensures in_step { (b : Beginning) → (s : SoFar) → IsInStep b s self.old → IsInStep b (with_frames input.now output.new s) self.new }
+        ensures in_step { (b : Beginning) → (s : SoFar) → IsInStep b s self.old →
+            IsInStep b (with_frames input.now output.new s) self.new }
     {
         self.lanes.frames(self.frames_done, input, output);
         self.frames_done += input.len() as u64;
@@ -152,7 +158,8 @@ impl Engine {
     pub fn block_sent(&mut self)
         requires { 1 ≤ length (left self.old) }
         ensures sent { self.new ≡ block_sent self.old }
-        ensures in_step { (b : Beginning) → (s : SoFar) → IsInStep b s self.old → IsInStep b (with_block (next_block self.old) s) self.new }
+        ensures in_step { (b : Beginning) → (s : SoFar) → IsInStep b s self.old →
+            IsInStep b (with_block (next_block self.old) s) self.new }
     {
         let target = self.queue.sending()[0].target;
         let total = block_total(&self.lanes, target);
@@ -160,11 +167,12 @@ impl Engine {
         self.queue.block_sent(total);
     }
 
-    /// The target of the oldest save that no release has answered, or None where there is no such save, or its blocks weren't
-    /// all sent.
+    /// The target of the oldest save that no release has answered, or None where there is no such
+    /// save, or its blocks weren't all sent.
     pub fn due(&self) -> Option<Target>
         ensures value { result ≡ due_target self.now }
-        ensures within { IfSome result (λ target. IsTrue (is_release_target (length self.now.looper.tracks) target)) }
+        ensures within { IfSome result
+            (λ target. IsTrue (is_release_target (length self.now.looper.tracks) target)) }
     {
         let due = self.queue.due();
         if due.is_empty() {
@@ -200,7 +208,8 @@ impl Engine {
     /// How many saves were made so far.
     pub fn saves(&self) -> u32
         ensures value { result ≡ self.now.looper.saves }
-        ensures within { result ≤ next_seq 0 self.now.journal.entries + next_seq 1 self.now.journal.entries }
+        ensures within { result ≤ next_seq 0 self.now.journal.entries
+            + next_seq 1 self.now.journal.entries }
     {
         self.lanes.saves()
     }

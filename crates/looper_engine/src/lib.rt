@@ -1,15 +1,17 @@
 //! The engine: the plain looper with its journal.
 //!
-//! - An engine is seen as an engine of the rules: a looper, its journal, the frames done, and the saves that no release has
-//!   answered. `take` stamps a command and applies it at once, and `frames` plays frames. No period and no thread is known here.
-//! - Each call keeps the engine in step (`IsInStep`): output, replies and saves so far are those of the run of its journal
-//!   over the input so far, whatever is taken and whatever frames come.
-//! - A save keeps no list of its own. Its blocks are read from the pinned lists, as they were at its entry, whatever was
-//!   played since: `next_block` gives the next one, `block_sent` goes on, and `due` tells which save waits for its release.
+//! - An engine is seen as an engine of the rules: a looper, its journal, the frames done, and the
+//!   saves that no release has answered. `take` stamps a command and applies it at once, and
+//!   `frames` plays frames. No period and no thread is known here.
+//! - Each call keeps the engine in step (`IsInStep`): output, replies and saves so far are those of
+//!   the run of its journal over the input so far, whatever is taken and whatever frames come.
+//! - A save keeps no list of its own. Its blocks are read from the pinned lists, as they were at
+//!   its entry, whatever was played since: `next_block` gives the next one, `block_sent` goes on,
+//!   and `due` tells which save waits for its release.
 //! - Only `Engine::new` takes memory.
 //!
-//! Begin with `engine`, then `saving`; `laws` has what holds of its calls together. The rules are "The run", "Entries and
-//! replies", "Saves" and "Blocks of a save" in docs/rules.md.
+//! Begin with `engine`, then `saving`; `laws` has what holds of its calls together. The rules are
+//! "The run", "Entries and replies", "Saves" and "Blocks of a save" in docs/rules.md.
 #![tactic(auto)]
 
 mod engine;

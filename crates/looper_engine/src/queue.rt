@@ -18,7 +18,8 @@ pub(crate) struct Pending {
     pub settings: Settings,
 }
 
-/// Saves that wait for their blocks to be sent, and then for their release. At most as many as there may be loops.
+/// Saves that wait for their blocks to be sent, and then for their release. At most as many as
+/// there may be loops.
 #[derive(Drop)]
 pub(crate) struct Queue {
     due: Vec<Pending>,
@@ -34,7 +35,8 @@ impl Model for Queue {
 
     ghost view = { λ q. record { due = q.due.items; sending = q.sending.items; part = q.part } };
 
-    ghost invariant = { λ q. IsQueue (vec_capacity q.due) (vec_capacity q.sending) (record { due = q.due.items; sending = q.sending.items; part = q.part }) };
+    ghost invariant = { λ q. IsQueue (vec_capacity q.due) (vec_capacity q.sending)
+        (record { due = q.due.items; sending = q.sending.items; part = q.part }) };
 }
 
 /// Whether a release with the first target answers a save with the second.
@@ -90,7 +92,8 @@ impl Queue {
         }
     }
 
-    /// A release of this target takes the save that it answers away, where its blocks were all sent.
+    /// A release of this target takes the save that it answers away, where its blocks were all
+    /// sent.
     fn release(&mut self, target: Target)
         ensures { self.new ≡ settled (Some target) self.old }
     {

@@ -103,7 +103,8 @@ fn part_of(frames: &[Frame]) -> PartFrames
 
 /// The head of a save.
 fn head_of(pending: &Pending) -> Block
-    ensures { result ≡ block_of Head pending.now.number pending.now.name pending.now.target pending.now.settings [] }
+    ensures { result ≡ block_of Head pending.now.number pending.now.name pending.now.target
+        pending.now.settings [] }
 {
     Block::Head {
         save: pending.number,
@@ -116,7 +117,8 @@ fn head_of(pending: &Pending) -> Block
 /// The block that this step of a save is.
 fn block_of(lanes: &Lanes, pending: &Pending, step: Step) -> Block
     requires { Reads pending.now.target lanes.now step }
-    ensures { result ≡ block_of step pending.now.number pending.now.name pending.now.target pending.now.settings (lists_for pending.now.target lanes.now) }
+    ensures { result ≡ block_of step pending.now.number pending.now.name pending.now.target
+        pending.now.settings (lists_for pending.now.target lanes.now) }
 {
     match step {
         Step::Head => head_of(pending),
@@ -137,12 +139,16 @@ fn block_of(lanes: &Lanes, pending: &Pending, step: Step) -> Block
 /// The block of this number of a save.
 pub(crate) fn block_at(lanes: &Lanes, pending: &Pending, block: u32) -> Block
     requires { CanRead pending.now.target lanes.now }
-    ensures { result ≡ block_of (step_at (map length (lists_for pending.now.target lanes.now)) block) pending.now.number pending.now.name pending.now.target pending.now.settings (lists_for pending.now.target lanes.now) }
+    ensures { result ≡ block_of
+        (step_at (map length (lists_for pending.now.target lanes.now)) block) pending.now.number
+        pending.now.name pending.now.target pending.now.settings
+        (lists_for pending.now.target lanes.now) }
 {
     block_of(lanes, pending, step_for(lanes, pending.target, block))
 }
 
-/// Where the block of this number is a part, its frames are looked up here once, and `block_at` searches nothing.
+/// Where the block of this number is a part, its frames are looked up here once, and `block_at`
+/// searches nothing.
 pub(crate) fn seek_block(lanes: &mut Lanes, target: Target, block: u32)
     requires { CanRead target lanes.old }
     ensures { lanes.new ≡ lanes.old }

@@ -5,8 +5,8 @@ ghost use Rattle.sl_commands.specs.Settings.{are_settings};
 
 use sl_commands::Settings;
 
-/// The settings of a looper, its chunks of 4096 frames (1 to 32768, over all loops), and how many entries each of the
-/// senders 0 and 1 may have (1 to 1048576).
+/// The settings of a looper, its chunks of 4096 frames (1 to 32768, over all loops), and how many
+/// entries each of the senders 0 and 1 may have (1 to 1048576).
 #[derive(Drop)]
 pub struct Setup {
     pub settings: Settings,

@@ -13,7 +13,13 @@ use sl_commands::{Command, Settings, Target, is_sender};
 
 /// A save with these settings, which comes behind those that were made.
 fn pending(lanes: &Lanes, target: Target, name: &Name, settings: Settings) -> Pending
-    ensures { result ≡ record { number = lanes.now.saves; target = target; name = name.now; settings = settings } }
+    ensures { result ≡ record {
+      number = lanes.now.saves;
+      target = target;
+      name =
+          name.now;
+      settings = settings;
+    } }
 {
     Pending {
         number: lanes.saves(),

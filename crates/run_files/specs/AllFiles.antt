@@ -1,7 +1,8 @@
--- The files of a run are read in this order: IN, the session's text and its WAV files by index where a session is named, and
--- JOURNAL, for as many loops as the settings have. Where no session is named the settings are those of empty loops at IN's
--- rate, and no list is given.
--- The first bad file is the first by this order that is missing or not in its form. The limits are judged behind all files.
+-- The files of a run are read in this order: IN, the session's text and its WAV files by index
+-- where a session is named, and JOURNAL, for as many loops as the settings have. Where no session
+-- is named the settings are those of empty loops at IN's rate, and no list is given.
+-- The first bad file is the first by this order that is missing or not in its form. The limits are
+-- judged behind all files.
 -- "The files of a run" in docs/formats.md.
 use Rattle.std.specs.Prelude.{◌≡◌, ℕ, List, [], Option, Some, None, length, Result, Ok, Err, ⊤}
 use Rattle.sl_base.specs.Sounds.{Sound}
@@ -22,9 +23,12 @@ pub record Told : Type 0 where
   pub lists : List (List Sound)
   pub entries : List Entry
 
--- the settings and lists that a run begins with: the session's, or those of so many empty loops at a rate
-abbrev pub Begins : Option Files → Option (List ℕ) → ℕ → ℕ → LooperSettings → List (List Sound) → Type 0
-Begins files None rate loops settings lists = (settings ≡ default_settings rate loops) × (lists ≡ [])
+-- the settings and lists that a run begins with: the session's, or those of so many empty loops at
+-- a rate
+abbrev pub Begins : Option Files → Option (List ℕ) → ℕ → ℕ → LooperSettings → List (List Sound) →
+    Type 0
+Begins files None rate loops settings lists = (settings ≡ default_settings rate loops)
+    × (lists ≡ [])
 Begins files (Some session) rate loops settings lists = IsLoaded files session settings lists
 
 -- the first bad file of the session, where one is named
@@ -52,5 +56,11 @@ pub record ExceedsLimit (files : Option Files) (n : Named) : Type 0 where
 -- the first bad file of a run: all before it are good
 pub data FirstBad (files : Option Files) (n : Named) (name : List ℕ) (kind line : ℕ) : Type 0 where
   bad_input : IsBadInput files n.input name kind line → FirstBad files n name kind line
-  bad_beginning : (spelling : Spelling) (frames : List Sound) → HoldsWav files n.input spelling frames → IsBadBeginning files n.session name kind line → FirstBad files n name kind line
-  bad_journal : (spelling : Spelling) (frames : List Sound) → HoldsWav files n.input spelling frames → (settings : LooperSettings) (lists : List (List Sound)) → Begins files n.session spelling.rate n.loops settings lists → IsBadJournal files n.journal (length settings.strips) name kind line → FirstBad files n name kind line
+  bad_beginning : (spelling : Spelling) (frames : List Sound) →
+      HoldsWav files n.input spelling frames → IsBadBeginning files n.session name kind line →
+      FirstBad files n name kind line
+  bad_journal : (spelling : Spelling) (frames : List Sound) →
+      HoldsWav files n.input spelling frames → (settings : LooperSettings)
+      (lists : List (List Sound)) → Begins files n.session spelling.rate n.loops settings lists →
+      IsBadJournal files n.journal (length settings.strips) name kind line →
+      FirstBad files n name kind line

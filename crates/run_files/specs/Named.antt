@@ -1,5 +1,5 @@
--- A run is read from IN, from a session where one is named, and from JOURNAL. Where no session is named it begins with so many
--- empty loops, 1 to 16. There are so many chunks for all loops.
+-- A run is read from IN, from a session where one is named, and from JOURNAL. Where no session is
+-- named it begins with so many empty loops, 1 to 16. There are so many chunks for all loops.
 -- "The files of a run" in docs/formats.md.
 use Rattle.std.specs.Prelude.{◌≤◌, ℕ, List, Option, length, IfSome, IsTrue}
 use Rattle.sl_base.specs.Limits.{max_session_name}

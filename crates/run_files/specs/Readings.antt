@@ -49,12 +49,17 @@ is_unread (Err Limit) = false
 -- the WAV file that bytes are, or why they aren't one; no reading can have failed
 abbrev pub TellsInput : List ℕ → List ℕ → Result InputOf LoadFault → Type 0
 TellsInput bytes name (Ok i) = IsWav bytes (spelling_of_input i) i.frames
-TellsInput bytes name (Err fault) = ToldOf (λ at kind line. (at ≡ name) × (line ≡ 0) × ((why : WavFault) × (form_of bytes ≡ Err why) × (kind ≡ fault_number why))) fault
+TellsInput bytes name (Err fault) =
+    ToldOf (λ at kind line. (at ≡ name) × (line ≡ 0)
+    × ((why : WavFault) × (form_of bytes ≡ Err why) × (kind ≡ fault_number why))) fault
 
 -- the journal that bytes are, for so many loops, or why they aren't one
 abbrev pub TellsJournal : List ℕ → List ℕ → ℕ → Result (List Entry) LoadFault → Type 0
 TellsJournal bytes name loops (Ok entries) = IsJournal loops bytes entries
-TellsJournal bytes name loops (Err fault) = ToldOf (λ at kind line. (at ≡ name) × ((text_kind : TextKind) × FirstFault (journal_form loops) bytes line text_kind × (kind ≡ kind_number text_kind))) fault
+TellsJournal bytes name loops (Err fault) =
+    ToldOf (λ at kind line. (at ≡ name)
+    × ((text_kind : TextKind) × FirstFault (journal_form loops) bytes line text_kind
+    × (kind ≡ kind_number text_kind))) fault
 
 -- IN, or what is wrong with it
 abbrev pub ReadsInput : Option Files → List ℕ → Result InputOf LoadFault → Type 0
@@ -62,7 +67,8 @@ ReadsInput files name (Ok i) = HoldsWav files name (spelling_of_input i) i.frame
 ReadsInput files name (Err fault) = SaysOf (IsBadInput files name) fault
 
 -- the settings and lists that a run begins with, or the session's first bad file
-abbrev pub ReadsBeginning : Option Files → Option (List ℕ) → ℕ → ℕ → Result (LooperSettings × List (List Sound)) LoadFault → Type 0
+abbrev pub ReadsBeginning : Option Files → Option (List ℕ) → ℕ → ℕ →
+    Result (LooperSettings × List (List Sound)) LoadFault → Type 0
 ReadsBeginning files session rate loops (Ok begun) = Begins files session rate loops begun.0 begun.1
 ReadsBeginning files session rate loops (Err fault) = SaysOf (IsBadBeginning files session) fault
 
@@ -90,8 +96,8 @@ Judges files chunks (Err Read) = ⊥
 Judges files chunks (Err Memory) = ⊥
 Judges files chunks (Err Limit) = IsBeyond chunks (length files.input.frames) files.initial
 
--- what was read is the run of these files; or their first bad file; or all are good and a limit is exceeded. A failed reading
--- and want of memory say nothing
+-- what was read is the run of these files; or their first bad file; or all are good and a limit is
+-- exceeded. A failed reading and want of memory say nothing
 abbrev pub ReadsRun : Option Files → Named → Result RunFiles RunFault → Type 0
 ReadsRun files n (Ok f) = IsRunOf files n (told_of f)
 ReadsRun files n (Err (File name kind line)) = FirstBad files n name kind line

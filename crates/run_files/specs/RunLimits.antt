@@ -9,7 +9,8 @@ use Rattle.looper_rules.specs.Room.{used}
 abbrev pub chunks_for : List (List Sound) → ℕ
 chunks_for lists = used (map length lists)
 
--- so many frames of IN and the lists are within the limits, where there are that many chunks at most
+-- so many frames of IN and the lists are within the limits, where there are that many chunks at
+-- most
 pub record IsWithin (most count : ℕ) (lists : List (List Sound)) : Type 0 where
   pub frames : count ≤ max_file_frames
   pub chunks : chunks_for lists ≤ most

@@ -1,13 +1,18 @@
-//! The files of a run: all that `render` goes over, read in order, and the first bad one told exactly.
+//! The files of a run: all that `render` goes over, read in order, and the first bad one told
+//! exactly.
 //!
-//! - `read_run` reads IN, then a session with its WAV files where one is named, and then JOURNAL, for as many loops as there
-//!   are. Where no session is named the run begins with empty loops at IN's rate.
-//! - The first file that is missing or not in its form is told by its name, the number of what is wrong and the line.
-//! - The limits are judged behind all files: IN's frames, and the chunks that the session's lists need.
-//! - Nothing is written. A failed reading and want of memory are answers of their own, and say nothing of the files.
+//! - `read_run` reads IN, then a session with its WAV files where one is named, and then JOURNAL,
+//!   for as many loops as there are. Where no session is named the run begins with empty loops at
+//!   IN's rate.
+//! - The first file that is missing or not in its form is told by its name, the number of what is
+//!   wrong and the line.
+//! - The limits are judged behind all files: IN's frames, and the chunks that the session's lists
+//!   need.
+//! - Nothing is written. A failed reading and want of memory are answers of their own, and say
+//!   nothing of the files.
 //!
-//! Begin with `sources`, then `run`; `reading` reads each file, `limits` judges the limits, and `laws` has what holds of the
-//! definitions.
+//! Begin with `sources`, then `run`; `reading` reads each file, `limits` judges the limits, and
+//! `laws` has what holds of the definitions.
 //! The rules are "The files of a run" in docs/formats.md.
 #![tactic(auto)]
 

@@ -33,13 +33,15 @@ pub struct RunFiles {
 /// Why a run isn't read.
 #[derive(Drop)]
 pub enum RunFault {
-    /// The first bad file: its name, the number of what is wrong (0 missing, a text's kind, a WAV file's fault, 8 another WAV
-    /// file than the session says) and the line in the text, 0 for a WAV file.
+    /// The first bad file: its name, the number of what is wrong (0 missing, a text's kind, a WAV
+    /// file's fault, 8 another WAV file than the session says) and the line in the text, 0 for a
+    /// WAV file.
     File(Name, u8, u32),
     /// A reading failed.
     Read,
     Memory,
-    /// All files were good, and IN has more than 134217728 frames, or the session's lists need more chunks than there are.
+    /// All files were good, and IN has more than 134217728 frames, or the session's lists need more
+    /// chunks than there are.
     Limit,
 }
 
@@ -99,8 +101,8 @@ fn judge(files: RunFiles, chunks: u32) -> Result<RunFiles, RunFault>
     Ok(files)
 }
 
-/// Reads all that a run goes over: IN, the session and its WAV files by index where one is named, and JOURNAL. The fault is
-/// the first by this order, and the limits come behind all files.
+/// Reads all that a run goes over: IN, the session and its WAV files by index where one is named,
+/// and JOURNAL. The fault is the first by this order, and the limits come behind all files.
 #[tactic(auto, using(crate::proofs::RunLemmas::judged_reads, crate::proofs::RunLemmas::judged_value, crate::proofs::RunLemmas::judged_entries, crate::proofs::RunLemmas::fault_reads, crate::proofs::RunLemmas::fault_value))]
 pub fn read_run<P: Keeper>(
     alloc: Global,

@@ -3,7 +3,8 @@
 use sl_base::Name;
 use std::marker::Model;
 
-/// The files that a run names, how many loops there are where no session is named, and how many chunks.
+/// The files that a run names, how many loops there are where no session is named, and how many
+/// chunks.
 #[derive(Drop)]
 pub struct Sources {
     /// The WAV file that is played into the looper.
@@ -23,7 +24,22 @@ impl Model for Sources {
 
     ghost Value = { Named };
 
-    ghost view = { λ s. record { input = s.input; session = s.session; loops = s.loops; journal = s.journal; chunks = s.chunks } };
+    ghost view = { λ s. record {
+      input = s.input;
+      session = s.session;
+      loops = s.loops;
+      journal =
+          s.journal;
+      chunks = s.chunks;
+    } };
 
-    ghost invariant = { λ s. IsNamed (record { input = s.input; session = s.session; loops = s.loops; journal = s.journal; chunks = s.chunks }) };
+    ghost invariant = { λ s.
+        IsNamed (record {
+          input = s.input;
+          session = s.session;
+          loops = s.loops;
+          journal =
+              s.journal;
+          chunks = s.chunks;
+        }) };
 }

@@ -1,5 +1,6 @@
--- The closed layers of a loop and those that were undone. Their cells hold addresses on the tape. Beside them stand the pieces
--- of all of them, the oldest layer first and the redo layers behind: undo and redo leave these as they are.
+-- The closed layers of a loop and those that were undone. Their cells hold addresses on the tape.
+-- Beside them stand the pieces of all of them, the oldest layer first and the redo layers behind:
+-- undo and redo leave these as they are.
 -- "Layers", "The stack" and "History: undo and redo" in docs/rules.md.
 use Rattle.std.specs.Prelude.{◌≡◌, ◌≤◌, ℕ, List, [], ◌∷◌, ◌++◌, length, take, get_or}
 use Rattle.looper_rules.specs.Layers.{Layer, contents, old_cells}
@@ -14,7 +15,15 @@ pub record LayersOf : Type 0 where
 -- a closed layer of these addresses
 abbrev pub closed_of : List ℕ → ℕ → ℕ → ℕ → Layer ℕ
 closed_of list cycle end seams =
-    record { cells = old_cells list; base = []; base_seams = 0; cycle = cycle; end = end; seams = seams }
+    record {
+      cells = old_cells list;
+      base = [];
+      base_seams = 0;
+      cycle = cycle;
+      end = end;
+      seams =
+          seams;
+    }
 
 -- the list of a layer is that of some pieces, which are at most its seams
 pub record IsPieced (l : Layer ℕ) : Type 0 where

@@ -227,7 +227,8 @@ impl LayerStack {
         self.hint = Hint::front();
     }
 
-    /// Puts the current layer among the redo layers. False, and nothing changes, exactly where there is none.
+    /// Puts the current layer among the redo layers. False, and nothing changes, exactly where
+    /// there is none.
     #[tactic(auto, using(crate::proofs::StackLemmas::moves))]
     pub fn undo(&mut self) -> bool
         ensures value { IsTrue result ↔ (0 < length self.old.layers) }

@@ -4,4 +4,5 @@ use Rattle.layers_bench.proofs.OwnLemmas.{idle-new}
 use Rattle.layers_bench.proofs.over_layers.Goals as goal
 
 pub all-requires-clause-idle : goal.all-requires-clause-idle
-all-requires-clause-idle c = idle-new c.in-Ok-new.layers c.fill.new.self 32768 c.in-Ok-new.ensures (grind (arith, common_steps, c.fill.ensures, c.in-Ok.ensures.all, c.min-chunks.ensures))
+all-requires-clause-idle c = idle-new c.in-Ok-new.layers c.fill.new.self 32768 c.in-Ok-new.ensures
+    (grind (arith, common_steps, c.fill.ensures, c.in-Ok.ensures.all, c.min-chunks.ensures))

@@ -8,5 +8,7 @@ use Rattle.engine_bench.proofs.session.begun.Goals as goal
 pub new-requires-2-clause-lists : goal.new-requires-2-clause-lists
 new-requires-2-clause-lists c =
     let count : is_loop_count c.args.loops ≡ true = search rules
-    in subst (λ (lists : List (List Sound)). AreLists c.with_defaults.result.strips lists) (sym c.new.ensures)
-    (subst (λ (s : LooperSettings). AreLists s.strips []) (sym c.with_defaults.ensures) (new_begins 48000 c.args.loops 4096 refl count).lengths)
+    in subst (λ (lists : List (List Sound)). AreLists c.with_defaults.result.strips lists)
+    (sym c.new.ensures)
+    (subst (λ (s : LooperSettings). AreLists s.strips []) (sym c.with_defaults.ensures)
+    (new_begins 48000 c.args.loops 4096 refl count).lengths)

@@ -12,8 +12,10 @@ finish-requires-clause-done g c =
     let going = c.requires.coming in
     let on = c.in_ok-done.ensures.come going.beginning going.start going.playable going.come in
     let within : c.in_ok-done.done ≤ length input.frames = omega (arith, on.1) in
-    frames_played g.P.Keeper going.beginning es input going.start c.in_ok-done.done (length es) c.turns.new.keeper c.turns.new.run.saver c.turns.new.run.engine
-    c.turns.new.run.out.items (string_bytes c.turns.new.run.text) c.turns.new.run.replies within on.0
+    frames_played g.P.Keeper going.beginning es input going.start c.in_ok-done.done (length es)
+    c.turns.new.keeper c.turns.new.run.saver c.turns.new.run.engine
+    c.turns.new.run.out.items (string_bytes c.turns.new.run.text) c.turns.new.run.replies within
+    on.0
 
 pub finish-requires-clause-within : goal.finish-requires-clause-within
 finish-requires-clause-within g c =
@@ -32,6 +34,9 @@ returns-clause-come g c =
     let input = c.args.input.now in
     λ b start playable come.
     let on = c.in_ok-done.ensures.come b start playable come in
-    ends g.P.Keeper b es input start c.turns.new.keeper c.turns.new.run.saver c.turns.new.run.engine c.finish.new.run.engine c.turns.new.run.out.items
-    (string_bytes c.turns.new.run.text) c.finish.new.run.out.items (string_bytes c.finish.new.run.text) c.in_ok-done.done c.turns.new.run.replies c.finish.result playable on.1 on.0
+    ends g.P.Keeper b es input start c.turns.new.keeper c.turns.new.run.saver c.turns.new.run.engine
+    c.finish.new.run.engine c.turns.new.run.out.items
+    (string_bytes c.turns.new.run.text) c.finish.new.run.out.items
+    (string_bytes c.finish.new.run.text) c.in_ok-done.done c.turns.new.run.replies c.finish.result
+    playable on.1 on.0
     c.finish.ensures.engine c.finish.ensures.out c.finish.ensures.text c.finish.ensures.memory

@@ -19,19 +19,32 @@ returns-then-is_err-clause-files g c = (writes_none g.P.Keeper _ c.args.keeper.n
 pub feed-requires-clause-step : goal.feed-requires-clause-step
 feed-requires-clause-step g c =
     let e : EngineOf = c.args.engine.now in
-    taken_somehow (entry_of c.args.entry.now.sender c.args.entry.now.command e) e c.take-answer.new.self (c.take-answer.ensures.took ∙ ap (λ (d : Command). took (entry_of c.args.entry.now.sender d e) e) c.duplicate.ensures) refl c.requires.none c.requires.step
+    taken_somehow (entry_of c.args.entry.now.sender c.args.entry.now.command e) e
+    c.take-answer.new.self
+    (c.take-answer.ensures.took
+    ∙ ap (λ (d : Command). took (entry_of c.args.entry.now.sender d e) e) c.duplicate.ensures)
+    refl c.requires.none c.requires.step
 
 pub feed-requires-clause-may : goal.feed-requires-clause-may
 feed-requires-clause-may g c =
     let e : EngineOf = c.args.engine.now in
-    taken_may_end (entry_of c.args.entry.now.sender c.args.entry.now.command e) e c.take-answer.new.self e.frames (c.take-answer.ensures.took ∙ ap (λ (d : Command). took (entry_of c.args.entry.now.sender d e) e) c.duplicate.ensures) c.frames_done-done.ensures.kept
+    taken_may_end (entry_of c.args.entry.now.sender c.args.entry.now.command e) e
+    c.take-answer.new.self e.frames
+    (c.take-answer.ensures.took
+    ∙ ap (λ (d : Command). took (entry_of c.args.entry.now.sender d e) e) c.duplicate.ensures)
+    c.frames_done-done.ensures.kept
     c.requires.step c.requires.none
 
 pub returns-clause-files : goal.returns-clause-files
 returns-clause-files g c =
     let e : EngineOf = c.args.engine.now in
-    subst (λ (fs : List SavedFile). WritesAll g.P.Keeper fs c.args.keeper.now c.feed.new.keeper c.feed.result)
-    (taken_due (entry_of c.args.entry.now.sender c.args.entry.now.command e) e c.take-answer.new.self c.args.saver.now.rate (c.take-answer.ensures.took ∙ ap (λ (d : Command). took (entry_of c.args.entry.now.sender d e) e) c.duplicate.ensures) c.requires.step
+    subst (λ (fs : List SavedFile). WritesAll g.P.Keeper fs c.args.keeper.now c.feed.new.keeper
+    c.feed.result)
+    (taken_due (entry_of c.args.entry.now.sender c.args.entry.now.command e) e
+    c.take-answer.new.self c.args.saver.now.rate
+    (c.take-answer.ensures.took
+    ∙ ap (λ (d : Command). took (entry_of c.args.entry.now.sender d e) e) c.duplicate.ensures)
+    c.requires.step
     c.requires.none)
     c.feed.ensures.files
 
@@ -40,6 +53,10 @@ returns-clause-step g c =
     let e : EngineOf = c.args.engine.now in
     let en = entry_of c.args.entry.now.sender c.args.entry.now.command e in
     λ b s h.
-    on_any c.feed.result (SentOn b (with_taken (reply en e.looper) (save en e.looper) s) c.feed.new.engine)
+    on_any c.feed.result
+    (SentOn b (with_taken (reply en e.looper) (save en e.looper) s) c.feed.new.engine)
     (c.feed.ensures.sent b (with_taken (reply en e.looper) (save en e.looper) s)
-    (taken_in_step b s en e c.take-answer.new.self (c.take-answer.ensures.took ∙ ap (λ (d : Command). took (entry_of c.args.entry.now.sender d e) e) c.duplicate.ensures) refl (may_take en e c.requires.step c.requires.none) h))
+    (taken_in_step b s en e c.take-answer.new.self
+    (c.take-answer.ensures.took
+    ∙ ap (λ (d : Command). took (entry_of c.args.entry.now.sender d e) e) c.duplicate.ensures)
+    refl (may_take en e c.requires.step c.requires.none) h))

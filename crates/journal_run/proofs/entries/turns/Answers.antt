@@ -11,11 +11,19 @@ loop-index-preserved g c =
     record {
       reads = did.reads ∙ was.reads;
       place = on.1;
-      coming = record { beginning = going.beginning; playable = going.playable; start = going.start; come = on.0 };
-      come = λ b start playable come. (did.come b start playable (was.come b start playable come)).0;
+      coming = record {
+        beginning = going.beginning;
+        playable = going.playable;
+        start = going.start;
+        come = on.0;
+      };
+      come = λ b start playable come.
+          (did.come b start playable (was.come b start playable come)).0;
     }
 
 pub returns-in_err-done-clause-come : goal.returns-in_err-done-clause-come
 returns-in_err-done-clause-come g c =
     let passed : c.from_residual.result ≡ Err c.in_err-done.field-0.0 = search rules in
-    λ b start playable come. rw passed (c.in_err-done.ensures.come b start playable (c.loop-index.invariant.come b start playable come))
+    λ b start playable come.
+    rw passed (c.in_err-done.ensures.come b start playable
+    (c.loop-index.invariant.come b start playable come))

@@ -9,8 +9,11 @@ abbrev pub invariant-loop-index : goal.invariant-loop-index
 invariant-loop-index g l = record {
   reads : g.P.Keeper.read_faults l.keeper ≡ g.P.Keeper.read_faults l.fn.keeper;
   place : l.done ≡ played_before (length l.input.frames) l.entries l.index;
-  coming : IsComing g.P.Keeper l.entries l.input l.done l.index l.keeper l.run.saver l.run.engine l.run.out.items (string_bytes l.run.text) l.run.replies;
+  coming : IsComing g.P.Keeper l.entries l.input l.done l.index l.keeper l.run.saver l.run.engine
+      l.run.out.items (string_bytes l.run.text) l.run.replies;
   come : (b : Beginning) → (start : g.row.P.Denot) → IsPlayable b l.entries l.input →
-      HasCome g.P.Keeper b l.entries l.input start 0 0 l.fn.keeper l.fn.run.saver l.fn.run.engine l.fn.run.out.items (string_bytes l.fn.run.text) l.fn.run.replies →
-      HasCome g.P.Keeper b l.entries l.input start l.done l.index l.keeper l.run.saver l.run.engine l.run.out.items (string_bytes l.run.text) l.run.replies;
+      HasCome g.P.Keeper b l.entries l.input start 0 0 l.fn.keeper l.fn.run.saver l.fn.run.engine
+      l.fn.run.out.items (string_bytes l.fn.run.text) l.fn.run.replies →
+      HasCome g.P.Keeper b l.entries l.input start l.done l.index l.keeper l.run.saver l.run.engine
+      l.run.out.items (string_bytes l.run.text) l.run.replies;
 }

@@ -15,13 +15,21 @@ feeding-preserved g c =
     record {
       rate = did.rate ∙ was.rate;
       reads = did.reads ∙ was.reads;
-      feeds = subst (λ (r : ℕ). Feeds g.P.Keeper r all c.args.keeper.now c.feed_one.new.keeper c.feed_one.new.saver.saving (left c.feed_one.new.engine)) was.rate
+      feeds = subst (λ (r : ℕ). Feeds g.P.Keeper r all c.args.keeper.now c.feed_one.new.keeper
+          c.feed_one.new.saver.saving (left c.feed_one.new.engine)) was.rate
           (did.fed all c.args.keeper.now
-          (subst (λ (r : ℕ). Feeds g.P.Keeper r all c.args.keeper.now c.feeding.keeper c.feeding.saver.saving (left c.feeding.engine)) (sym was.rate) was.feeds));
-      step = record { beginning = was.step.beginning; so_far = record was.step.so_far { sent = on.sent }; step = on.step };
+          (subst (λ (r : ℕ). Feeds g.P.Keeper r all c.args.keeper.now c.feeding.keeper
+          c.feeding.saver.saving (left c.feeding.engine)) (sym was.rate) was.feeds));
+      step = record {
+        beginning = was.step.beginning;
+        so_far =
+            record was.step.so_far { sent = on.sent };
+        step = on.step;
+      };
       sent = λ b s h. sent_more b s _ _ (was.sent b s h) (λ t. did.sent b t);
       journal = did.journal ∙ was.journal;
     }
 
 pub returns-in_err-feed_one-clause-sent : goal.returns-in_err-feed_one-clause-sent
-returns-in_err-feed_one-clause-sent g c = λ b s h. sent_more b s _ _ (c.feeding.invariant.sent b s h) (λ t. c.in_err-feed_one.ensures.sent b t)
+returns-in_err-feed_one-clause-sent g c = λ b s h.
+    sent_more b s _ _ (c.feeding.invariant.sent b s h) (λ t. c.in_err-feed_one.ensures.sent b t)

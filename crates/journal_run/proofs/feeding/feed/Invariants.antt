@@ -11,7 +11,8 @@ abbrev pub invariant-feeding : goal.invariant-feeding
 invariant-feeding g l = record {
   rate : l.saver.rate ≡ l.fn.saver.rate;
   reads : g.P.Keeper.read_faults l.keeper ≡ g.P.Keeper.read_faults l.fn.keeper;
-  feeds : Feeds g.P.Keeper l.fn.saver.rate (due_for_all l.fn.saver.rate None (left l.fn.engine)) l.fn.keeper l.keeper l.saver.saving (left l.engine);
+  feeds : Feeds g.P.Keeper l.fn.saver.rate (due_for_all l.fn.saver.rate None (left l.fn.engine))
+      l.fn.keeper l.keeper l.saver.saving (left l.engine);
   step : IsSomehowInStep l.engine;
   sent : (b : Beginning) → (s : SoFar) → IsInStep b s l.fn.engine → SentOn b s l.engine;
   journal : l.engine.journal ≡ l.fn.engine.journal;

@@ -8,5 +8,7 @@ returns c =
     let form = c.args.form in
     let count = length c.args.frames.now in
     c.read_frames.ensures
-    ∙ ap (λ bytes. frames_in form.channels form.bits count bytes) (c.split_at.ensures.back ∙ ap (λ n. drop n c.args.bytes.now) c.place_of-place.ensures.value)
-    ∙ span_read form.channels form.bits form.start form.count c.args.from count c.args.bytes.now c.requires.within
+    ∙ ap (λ bytes. frames_in form.channels form.bits count bytes)
+    (c.split_at.ensures.back ∙ ap (λ n. drop n c.args.bytes.now) c.place_of-place.ensures.value)
+    ∙ span_read form.channels form.bits form.start form.count c.args.from count c.args.bytes.now
+    c.requires.within

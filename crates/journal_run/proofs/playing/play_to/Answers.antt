@@ -12,6 +12,8 @@ spans-preserved c =
     record {
       order = omega arith;
       within = omega arith;
-      engine = spans_more c.args.from c.spans.done c.min-count.result _ input.frames _ _ _ size was.order was.engine did.engine;
-      out = heard_more c.args.from c.spans.done c.min-count.result _ input.channels input.bits input.frames _ _ _ _ _ size was.order was.engine was.out did.out;
+      engine = spans_more c.args.from c.spans.done c.min-count.result _ input.frames _ _ _ size
+          was.order was.engine did.engine;
+      out = heard_more c.args.from c.spans.done c.min-count.result _ input.channels input.bits
+          input.frames _ _ _ _ _ size was.order was.engine was.out did.out;
     }

@@ -11,7 +11,8 @@ invariant-spans l = record {
   within : l.done ≤ l.until;
   engine : l.engine ≡ went_on (span_of l.fn.from (l.done - l.fn.from) l.input.frames) l.fn.engine;
   out : l.out.items
-      ≡ l.fn.out.items ++ samples l.input.channels l.input.bits (put_out (span_of l.fn.from (l.done - l.fn.from) l.input.frames) l.fn.engine);
+      ≡ l.fn.out.items ++ samples l.input.channels l.input.bits
+      (put_out (span_of l.fn.from (l.done - l.fn.from) l.input.frames) l.fn.engine);
 }
 
 abbrev pub decreases-spans : goal.decreases-spans

@@ -7,5 +7,7 @@ use Rattle.looper_engine.proofs.tests.begun.Goals as goal
 
 pub new-requires-2-clause-lists : goal.new-requires-2-clause-lists
 new-requires-2-clause-lists c =
-    subst (λ (lists : List (List Sound)). AreLists c.with_defaults.result.strips lists) (sym c.new.ensures)
-    (subst (λ (s : LooperSettings). AreLists s.strips []) (sym c.with_defaults.ensures) (new_begins 48000 c.args.loops c.args.chunks refl c.requires.loops).lengths)
+    subst (λ (lists : List (List Sound)). AreLists c.with_defaults.result.strips lists)
+    (sym c.new.ensures)
+    (subst (λ (s : LooperSettings). AreLists s.strips []) (sym c.with_defaults.ensures)
+    (new_begins 48000 c.args.loops c.args.chunks refl c.requires.loops).lengths)

@@ -6,4 +6,6 @@ use Rattle.journal_run.proofs.input.Input.len.Goals as goal
 pub returns : goal.returns
 returns c =
     let form = c.self.inside.form in
-    sym (length-frames_in form.channels form.bits form.count (drop form.start c.self.inside.bytes.items)) ∙ ap (λ (i : InputOf). length i.frames) c.self.view_is
+    sym (length-frames_in form.channels form.bits form.count
+    (drop form.start c.self.inside.bytes.items))
+    ∙ ap (λ (i : InputOf). length i.frames) c.self.view_is

@@ -6,4 +6,10 @@ use Rattle.journal_run.proofs.input.Input.read.Goals as goal
 pub read_at-requires-clause-within : goal.read_at-requires-clause-within
 read_at-requires-clause-within c =
     let form = c.self.inside.form in
-    omega (arith, c.requires, ap (λ (i : InputOf). length i.frames) c.self.view_is, length-frames_in form.channels form.bits form.count (drop form.start c.self.inside.bytes.items))
+    omega (
+      arith,
+      c.requires,
+      ap (λ (i : InputOf). length i.frames) c.self.view_is,
+      length-frames_in
+          form.channels form.bits form.count (drop form.start c.self.inside.bytes.items),
+    )

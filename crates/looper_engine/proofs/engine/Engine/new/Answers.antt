@@ -7,18 +7,25 @@ use Rattle.looper_engine.proofs.engine.Engine.new.Goals as goal
 
 pub over-requires-clause-kept : goal.over-requires-clause-kept
 over-requires-clause-kept c =
-    let looper : c.in-Ok.lanes ≡ start c.args.setup.now.settings c.args.setup.now.chunks c.args.initial.now = search rules
+    let looper : c.in-Ok.lanes ≡ start c.args.setup.now.settings c.args.setup.now.chunks
+    c.args.initial.now = search rules
     in let fits : c.args.setup.now.chunks < used (map length c.args.initial.now) → ⊥ = search rules
-    in start_kept c.args.setup.now.settings c.args.setup.now.chunks c.args.initial.now c.in-Ok.lanes looper
-    (beginning c.args.setup.now.settings c.args.setup.now.chunks c.args.initial.now c.loops-loops.ensures.within c.requires.lists fits)
+    in start_kept c.args.setup.now.settings c.args.setup.now.chunks c.args.initial.now c.in-Ok.lanes
+    looper
+    (beginning c.args.setup.now.settings c.args.setup.now.chunks c.args.initial.now
+    c.loops-loops.ensures.within c.requires.lists fits)
 
 pub over-requires-clause-free : goal.over-requires-clause-free
 over-requires-clause-free c =
-    let looper : c.in-Ok.lanes ≡ start c.args.setup.now.settings c.args.setup.now.chunks c.args.initial.now = search rules
-    in start_free c.args.setup.now.settings c.args.setup.now.chunks c.args.initial.now c.in-Ok.lanes looper
+    let looper : c.in-Ok.lanes ≡ start c.args.setup.now.settings c.args.setup.now.chunks
+    c.args.initial.now = search rules
+    in start_free c.args.setup.now.settings c.args.setup.now.chunks c.args.initial.now c.in-Ok.lanes
+    looper
 
 pub returns-in-Ok-clause-begins : goal.returns-in-Ok-clause-begins
 returns-in-Ok-clause-begins c =
     let fits : c.args.setup.now.chunks < used (map length c.args.initial.now) → ⊥ = search rules
-    in at_any_rate c.over.result (IsBeginning c.args.setup.now.settings c.args.setup.now.chunks c.args.initial.now)
-    (beginning c.args.setup.now.settings c.args.setup.now.chunks c.args.initial.now c.loops-loops.ensures.within c.requires.lists fits)
+    in at_any_rate c.over.result
+    (IsBeginning c.args.setup.now.settings c.args.setup.now.chunks c.args.initial.now)
+    (beginning c.args.setup.now.settings c.args.setup.now.chunks c.args.initial.now
+    c.loops-loops.ensures.within c.requires.lists fits)

@@ -9,18 +9,23 @@ pub invariant_of-self : goal.invariant_of-self
 invariant_of-self c =
     let fewer = c.loop-index.invariant.2
     in let same = c.loop-index.invariant.4
-    in let long : length c.loop-index.self-inside.sending.items ≡ length c.self.inside.sending.items = ap (λ v. length v.items) same
-    in let view : length c.self.inside.due.items ≡ length c.args.self.now.due = ap (λ (q : QueueOf). length q.due) c.self.view_is
+    in let long : length c.loop-index.self-inside.sending.items ≡ length
+    c.self.inside.sending.items = ap (λ v. length v.items) same
+    in let view : length c.self.inside.due.items ≡ length c.args.self.now.due =
+    ap (λ (q : QueueOf). length q.due) c.self.view_is
     in let few = c.self.invariant.few
     in record {
       due_room = c.loop-index.invariant.3;
-      sending_room = subst (λ v. max_loops ≤ vec_capacity v) (sym same) c.self.invariant.sending_room;
+      sending_room = subst (λ v. max_loops ≤ vec_capacity v) (sym same)
+          c.self.invariant.sending_room;
       few = omega arith;
     }
 
 pub returns : goal.returns
 returns c =
     let past : length c.loop-index.self-inside.due.items ≤ c.loop-index.index = search rules
-    in released_queue c.args.target _ _ c.self.inside.sending.items c.self.inside.due.items _ c.self.inside.part c.args.self.now c.self.view_is
-    (released_all c.args.target c.loop-index.index c.loop-index.self-inside.due.items c.args.self.now.due c.loop-index.invariant.0 past)
+    in released_queue c.args.target _ _ c.self.inside.sending.items c.self.inside.due.items _
+    c.self.inside.part c.args.self.now c.self.view_is
+    (released_all c.args.target c.loop-index.index c.loop-index.self-inside.due.items
+    c.args.self.now.due c.loop-index.invariant.0 past)
     (ap (λ v. v.items) c.loop-index.invariant.4) c.loop-index.invariant.5

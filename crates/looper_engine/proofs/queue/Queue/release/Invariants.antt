@@ -6,7 +6,8 @@ use Rattle.looper_engine.proofs.queue.Queue.release.Given as goal
 
 abbrev pub invariant-loop-index : goal.invariant-loop-index
 invariant-loop-index l =
-    (take l.index l.self-inside.due.items ++ left_by l.target (drop l.index l.self-inside.due.items) ≡ left_by l.target l.fn.self.due)
+    (take l.index l.self-inside.due.items
+    ++ left_by l.target (drop l.index l.self-inside.due.items) ≡ left_by l.target l.fn.self.due)
     × (l.index ≤ length l.self-inside.due.items)
     × (length l.self-inside.due.items ≤ length l.fn.self.due)
     × (max_loops ≤ vec_capacity l.self-inside.due)
