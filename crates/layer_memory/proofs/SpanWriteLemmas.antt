@@ -1,28 +1,25 @@
 -- What writes in a row leave.
 use Rattle.std.proofs.Common.{◌≡◌, ◌≢◌, ◌≤◌, ◌<◌, ℕ, ◌+◌, ◌%◌, ◌==◌, Bool, true, false, List, [], ◌∷◌, length, Option, Some, None, refl, sym, ap, arith, suc, zero, IsTrue, is_some, get_or, take, map, if◌then◌else◌}
-use Rattle.std.specs.Prelude.{⊤, nat_le, nat_lt, slice_get, slice_set}
+use Rattle.std.specs.Prelude.{nat_le, nat_lt, slice_get, slice_set}
 use Rattle.std.proofs.lemmas.Bool.{ne_eqb}
 use Rattle.std.proofs.lemmas.List.{length-take-le}
-use Rattle.std.specs.List.{AllByRecursion}
 use Rattle.sl_base.specs.Limits.{max_seams}
 use Rattle.sl_base.specs.Sounds.{Sound, silence}
-use Rattle.sl_commands.specs.declared.How.{How}
 use Rattle.sl_commands.specs.declared.How.TheVariants.{Forward}
-use Rattle.looper_rules.specs.Layers.{Cell, Layer, current_cells, fresh_cell, is_fresh, total_seams, with_current}
+use Rattle.looper_rules.specs.Layers.{Cell, Layer, current_cells, fresh_cell, total_seams, with_current}
 use Rattle.looper_rules.specs.Stack.{LastWrite, Stack, run_broken}
-use Rattle.looper_rules.specs.Mapping.{cell_map, layer_map, stack_map}
+use Rattle.looper_rules.specs.Mapping.{layer_map, stack_map}
 use Rattle.looper_rules.specs.Room.{has_room}
-use Rattle.looper_rules.specs.Writing.{meets_fresh, new_cell_fits, newly_written, rewritten, with_written, write_fits, written}
+use Rattle.looper_rules.specs.Writing.{meets_fresh, new_cell_fits, newly_written, rewritten, with_written, write_fits}
 use Rattle.loop_tape.specs.Pools.{PoolOf}
-use Rattle.loop_tape.specs.Tapes.{TapeOf, at, Apart, IsWhole, Owns as TapeOwns, PushedAll, AreSet, Stays}
+use Rattle.loop_tape.specs.Tapes.{TapeOf, at, IsWhole, Owns as TapeOwns, PushedAll, AreSet}
 use Rattle.lazy_fill.specs.Fills.{FillOf, IsFill, fill_written, fill_written_span}
 use Rattle.lazy_fill.specs.Runs.{more_seams}
 use Rattle.undo_stack.specs.Layered.{LayersOf}
-use Rattle.layer_memory.specs.Kept.{LayerBelow, PinBelow, StackBelow, Alone}
+use Rattle.layer_memory.specs.Kept.{StackBelow, Alone}
 use Rattle.layer_memory.specs.Seen.{Held, seen, reach}
-use Rattle.layer_memory.specs.Answers.{Keeps}
 use Rattle.layer_memory.specs.Spans.{AllFit, AreAlone, AreMarked, WritesSpan, newly_written_span, written_span}
-use Rattle.layer_memory.specs.Inside.{held_by, stacked, MayBeOpen, Holds}
+use Rattle.layer_memory.specs.Inside.{held_by, stacked, Holds}
 use Rattle.layer_memory.specs.declared.layers.Top.{Top}
 use Rattle.layer_memory.proofs.SeenLemmas.{newly-mapped, stack-agrees, fresh-mapped, cells-mapped, fresh_at-mapped}
 use Rattle.layer_memory.proofs.AlikeLemmas.{stack-rewritten}

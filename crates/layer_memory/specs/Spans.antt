@@ -1,6 +1,6 @@
 -- Frames written in a row, each over the one at its place: the rules' single write, as often.
 -- "Writing" in docs/rules.md.
-use Rattle.std.specs.Prelude.{◌≡◌, ◌<◌, ℕ, zero, suc, ◌+◌, ⊤, Bool, true, List, [], ◌∷◌, length, slice_get}
+use Rattle.std.specs.Prelude.{◌≡◌, ◌<◌, ℕ, zero, suc, ◌+◌, ⊤, Bool, true, List, [], ◌∷◌, slice_get}
 use Rattle.sl_base.specs.Sounds.{Sound}
 use Rattle.sl_commands.specs.declared.How.TheVariants.{Forward}
 use Rattle.looper_rules.specs.Layers.{Layer, current_cells, is_fresh}

@@ -1,15 +1,14 @@
 -- What writes in a row keep of the layer that is written, and what it is behind them.
-use Rattle.std.proofs.Common.{◌≡◌, ◌≤◌, ◌<◌, ℕ, ◌+◌, ◌-◌, true, false, List, [], ◌∷◌, get_or, take, drop, length, refl, sym, ap, ap₂, arith, suc, zero, Option, Some, None, IsTrue, is_some}
+use Rattle.std.proofs.Common.{◌≡◌, ◌≤◌, ◌<◌, ℕ, ◌+◌, ◌-◌, true, false, List, [], ◌∷◌, get_or, take, drop, length, refl, sym, ap, arith, suc, zero, Option, Some, None, IsTrue, is_some}
 use Rattle.std.specs.Prelude.{slice_set, nat_le}
-use Rattle.sl_base.specs.Limits.{max_list_frames, max_seams}
-use Rattle.sl_commands.specs.declared.How.{How}
+use Rattle.sl_base.specs.Limits.{max_seams}
 use Rattle.sl_commands.specs.declared.How.TheVariants.{Forward}
 use Rattle.looper_rules.specs.Stack.{LastWrite}
 use Rattle.looper_rules.specs.WritePlaces.{Follows}
 use Rattle.std.proofs.lemmas.List.{get_or-take, get_or-drop}
 use Rattle.pieces.specs.Pieces.{Piece, address_in, addresses, piece_addresses, total}
 use Rattle.pieces.proofs.SplittingLemmas.{at-piece}
-use Rattle.pieces.specs.OneMore.{overwritten, overwritten_span}
+use Rattle.pieces.specs.OneMore.{overwritten_span}
 use Rattle.pieces.proofs.AddressLemmas.{length-addresses}
 use Rattle.pieces.proofs.OneMoreLemmas.{overwritten-addresses, overwritten-runs}
 use Rattle.lazy_fill.specs.Runs.{more_seams}

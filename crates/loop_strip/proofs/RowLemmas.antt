@@ -1,19 +1,17 @@
 -- A row of a loop is its frames one by one.
-use Rattle.std.proofs.Common.{◌≡◌, ℕ, zero, suc, ◌+◌, ◌-◌, ◌≤◌, ◌<◌, Bool, true, false, List, [], ◌∷◌, ◌++◌, length, take, drop, get_or, replicate, map, refl, sym, ap, ap₂, subst, ◌∙◌, arith, IsTrue}
+use Rattle.std.proofs.Common.{◌≡◌, ℕ, zero, suc, ◌+◌, ◌≤◌, ◌<◌, Bool, true, false, List, [], ◌∷◌, ◌++◌, length, take, drop, get_or, replicate, refl, sym, ap, ap₂, subst, ◌∙◌, arith, IsTrue}
 use Rattle.std.proofs.lemmas.List.{length-take-le, ext_get_or, get_or-take, get_or-drop, length-take, get_or-replicate, get_or_past, length-replicate}
-use Rattle.std.specs.Prelude.{⊤, ◌==◌, slice_set, slice_get, slice_index_or}
-use Rattle.sl_base.specs.Limits.{max_list_frames}
+use Rattle.std.specs.Prelude.{slice_set}
 use Rattle.sl_base.specs.Sounds.{Sound, silence}
-use Rattle.sl_commands.specs.declared.How.{How}
 use Rattle.sl_commands.specs.declared.How.TheVariants.{Forward}
 use Rattle.sl_commands.specs.declared.Mode.{Mode}
 use Rattle.sl_commands.specs.declared.Mode.TheVariants.{Playing, Overdubbing, Multiplying, Replacing, Substituting, OneShot}
-use Rattle.looper_rules.specs.Layers.{Cell, Layer, contents, current_cells, current_length, current_list, fresh_cell, with_current}
+use Rattle.looper_rules.specs.Layers.{Cell, Layer, contents, current_length, current_list, fresh_cell, with_current}
 use Rattle.looper_rules.specs.Stack.{Stack}
 use Rattle.looper_rules.specs.WritePlaces.{Follows}
-use Rattle.looper_rules.specs.Writing.{meets_fresh, newly_written, rewritten, with_written, write_fits, written}
-use Rattle.looper_rules.specs.Loop.{Loop, Deck, Controls, is_writing, length_of, at_place, with_stack}
-use Rattle.looper_rules.specs.LoopFrame.{ready, heard, heard_from, sound_at, new_frame, how_in, fits, with_input, wraps, goes_on, writes, frame_later}
+use Rattle.looper_rules.specs.Writing.{meets_fresh, with_written, write_fits, written}
+use Rattle.looper_rules.specs.Loop.{Loop, Deck, is_writing, length_of, at_place, with_stack}
+use Rattle.looper_rules.specs.LoopFrame.{ready, heard, heard_from, sound_at, new_frame, how_in, wraps, goes_on, writes, frame_later}
 use Rattle.looper_rules.specs.LoopSpans.{loop_over, loop_heard_over}
 use Rattle.loop_tape.specs.Pools.{PoolOf}
 use Rattle.loop_tape.specs.Tapes.{at}
@@ -24,7 +22,7 @@ use Rattle.loop_strip.specs.Strips.{loop_map, seen, reach_in, Owns, Did}
 use Rattle.loop_strip.specs.declared.parts.Parts.{Parts}
 use Rattle.loop_strip.specs.Parts.{loop_of, strip_of, IsWhole}
 use Rattle.loop_strip.specs.Rows.{WritesOver, IsRow, row_written, row_heard}
-use Rattle.loop_strip.proofs.DidLemmas.{seen-is, seen_deck, seen_controls, reaches, did_kept, did_as, did_then, did_also}
+use Rattle.loop_strip.proofs.DidLemmas.{seen-is, seen_deck, reaches, did_kept, did_as, did_then, did_also}
 use Rattle.loop_strip.proofs.OpeningLemmas.{layers_of}
 use Rattle.loop_strip.proofs.LoopLemmas.{length-mapped}
 use Rattle.loop_strip.proofs.FrameLemmas.{seen_stack, inside, follows_for}

@@ -1,8 +1,8 @@
 -- A row is some frames, one after another, that a loop writes forward over the cells of its list before the list's border.
 -- What is written and what is heard of it comes from the list as it stood before the row.
 -- "Frames in a row" and "One frame of a loop" in docs/rules.md.
-use Rattle.std.specs.Prelude.{◌≡◌, ◌≤◌, ◌<◌, ℕ, ◌+◌, ⊤, Bool, false, List, [], ◌∷◌, length, take, drop, replicate}
-use Rattle.sl_base.specs.Sounds.{Sound, silence}
+use Rattle.std.specs.Prelude.{◌≡◌, ◌<◌, ℕ, ◌+◌, ⊤, Bool, false, List, [], ◌∷◌}
+use Rattle.sl_base.specs.Sounds.{Sound}
 use Rattle.sl_commands.specs.declared.Mode.{Mode}
 use Rattle.sl_commands.specs.declared.Mode.TheVariants.{Overdubbing, Replacing, Substituting}
 use Rattle.looper_rules.specs.LoopFrame.{heard_from, new_frame, sound_at}

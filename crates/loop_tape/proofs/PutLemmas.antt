@@ -1,5 +1,5 @@
 -- Frames put in a row, in one chunk of a tape.
-use Rattle.std.proofs.Common.{◌≡◌, ◌≢◌, ◌≤◌, ◌<◌, ℕ, ◌+◌, ◌*◌, ◌/◌, ◌%◌, ◌==◌, nat_lt, Bool, true, false, List, length, refl, ap, arith, get_or}
+use Rattle.std.proofs.Common.{◌≡◌, ◌≢◌, ◌≤◌, ◌<◌, ℕ, ◌+◌, ◌*◌, ◌/◌, ◌%◌, ◌==◌, nat_lt, Bool, true, false, List, length, refl, arith, get_or}
 use Rattle.sl_base.specs.Sounds.{Sound, silence}
 use Rattle.loop_tape.specs.Pools.{PoolOf, AreDistinct, IsPool, with_frames}
 use Rattle.loop_tape.specs.Tapes.{TapeOf, slot, Owns, Apart, IsWhole, Stays, PushedAll, AreSet}

@@ -1,10 +1,9 @@
 -- The border of two pieces, moved by one address: one of them grows, and the other loses it.
-use Rattle.std.proofs.Common.{◌≡◌, ◌≤◌, ◌<◌, ℕ, ◌+◌, ◌-◌, ◌==◌, nat_lt, Bool, true, false, List, [], ◌∷◌, ◌++◌, length, refl, sym, ap, arith, get_or, set, take, drop, suc, zero}
-use Rattle.std.proofs.lemmas.Grind.{common_steps}
+use Rattle.std.proofs.Common.{◌≡◌, ◌≤◌, ◌<◌, ℕ, ◌+◌, ◌-◌, ◌==◌, nat_lt, true, false, List, [], ◌∷◌, ◌++◌, length, refl, sym, ap, arith, get_or, take, drop, suc, zero}
 use Rattle.std.specs.Prelude.{slice_set}
 use Rattle.pieces.specs.Pieces.{Piece, Solid, total}
 use Rattle.pieces.specs.Splitting.{IsHint, back, before, behind, front}
-use Rattle.pieces.specs.OneMore.{grown, grown_down, grows, grows_down, inserted, joined, joined_on, joined_before, overwritten, overwritten_backward}
+use Rattle.pieces.specs.OneMore.{grown, grown_down, grows, grows_down, inserted, joined, joined_on, overwritten, overwritten_backward}
 use Rattle.pieces.proofs.SplittingLemmas.{take-whole}
 use Rattle.pieces.proofs.OneMoreLemmas.{index-grown, join-grown, behind-none}
 

@@ -1,8 +1,7 @@
 -- Addresses in a row written over others: a border of two pieces, moved by as many at once.
-use Rattle.std.proofs.Common.{◌≡◌, ◌≤◌, ◌<◌, ℕ, ◌+◌, ◌-◌, ◌==◌, nat_lt, ◌||◌, ◌&&◌, not, Bool, true, false, List, [], ◌∷◌, ◌++◌, length, refl, sym, ap, ap₂, arith, get_or, set, take, drop, suc, zero}
-use Rattle.std.proofs.lemmas.Grind.{common_steps}
+use Rattle.std.proofs.Common.{◌≡◌, ◌≤◌, ◌<◌, ℕ, ◌+◌, ◌-◌, ◌==◌, ◌&&◌, Bool, true, false, List, [], ◌∷◌, length, refl, sym, ap, ap₂, arith, get_or, suc, zero}
 use Rattle.std.specs.Prelude.{slice_set}
-use Rattle.pieces.specs.Pieces.{Piece, Solid, addresses, total, address_in}
+use Rattle.pieces.specs.Pieces.{Piece, Solid, addresses, total}
 use Rattle.pieces.specs.Splitting.{IsHint, back, before}
 use Rattle.pieces.specs.OneMore.{grown, grown_by, grows, joined, overwritten, overwritten_span}
 use Rattle.pieces.proofs.AddressLemmas.{length-addresses}

@@ -1,6 +1,4 @@
-use Rattle.std.proofs.Common.{rules, arith, ◌≡◌, ◌≤◌, ◌<◌, ◌+◌, ◌-◌, sym, length, true, IsTrue}
-use Rattle.pieces.specs.OneMore.{grows}
-use Rattle.pieces.specs.Pieces.{total}
+use Rattle.std.proofs.Common.{rules}
 use Rattle.pieces.proofs.SpanLemmas.{span_hint}
 use Rattle.pieces.proofs.replace.move_border_by.Goals as goal
 

@@ -1,4 +1,4 @@
-use Rattle.std.proofs.Common.{rules, arith, sym, true, IsTrue, is_some, ◌≤◌, ◌<◌, ◌≡◌, ◌+◌, get_or, length}
+use Rattle.std.proofs.Common.{rules, sym, true, IsTrue, is_some, ◌≡◌, get_or}
 use Rattle.pieces.specs.Pieces.{addresses}
 use Rattle.layer_memory.proofs.SpanWriteLemmas.{marked-row, fresh-rows, alone-row}
 use Rattle.layer_memory.proofs.layers.Layers.fresh_ahead.Goals as goal

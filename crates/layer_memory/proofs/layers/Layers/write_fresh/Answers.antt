@@ -1,4 +1,4 @@
-use Rattle.std.proofs.Common.{rules, arith, ◌≡◌, ◌≤◌, ◌<◌, length, take, true}
+use Rattle.std.proofs.Common.{rules, arith, ◌≤◌, length, take, true}
 use Rattle.std.proofs.lemmas.List.{length-take-le}
 use Rattle.layer_memory.specs.Spans.{AreAlone, AreMarked}
 use Rattle.layer_memory.proofs.SpanWriteLemmas.{rewrites-span}

@@ -1,6 +1,5 @@
-use Rattle.std.proofs.Common.{rules, arith, sym, ◌≡◌, ◌≢◌, ◌≤◌, ◌+◌, ◌%◌, length, take, IsTrue}
+use Rattle.std.proofs.Common.{rules, arith, sym, ◌≢◌, ◌≤◌, ◌+◌, ◌%◌, length}
 use Rattle.std.proofs.lemmas.List.{length-take-le}
-use Rattle.sl_base.specs.Limits.{chunk_frames}
 use Rattle.layer_memory.proofs.SpanWriteLemmas.{pushes-row}
 use Rattle.layer_memory.proofs.layers.Layers.write_old.Goals as goal
 

@@ -1,7 +1,6 @@
-use Rattle.std.proofs.Common.{rules, refl, ◌≡◌, ◌≤◌, ◌+◌, Some, IsTrue, is_some, length, sym}
+use Rattle.std.proofs.Common.{rules, refl, ◌≡◌, ◌≤◌, ◌+◌, IsTrue, is_some, length, sym}
 use Rattle.sl_commands.specs.declared.How.TheVariants.{Forward}
 use Rattle.looper_rules.specs.WritePlaces.{Follows}
-use Rattle.pieces.specs.Pieces.{addresses}
 use Rattle.pieces.specs.OneMore.{overwritten_span}
 use Rattle.lazy_fill.specs.Inside.{fill_of}
 use Rattle.lazy_fill.proofs.SpanLemmas.{span-holds}

@@ -1,5 +1,4 @@
-use Rattle.std.proofs.Common.{rules, arith, ◌≡◌, ◌≤◌, ℕ, length, take, ap, sym, ◌∙◌}
-use Rattle.sl_commands.specs.declared.Mode.{Mode}
+use Rattle.std.proofs.Common.{rules, ◌≡◌, ◌≤◌, ℕ, length, take, ap, ◌∙◌}
 use Rattle.looper_rules.specs.Loop.{Loop, is_writing}
 use Rattle.layer_memory.specs.Seen.{Held}
 use Rattle.loop_strip.proofs.StretchLemmas.{whole_over}
