@@ -49,15 +49,17 @@ fn names_and_words_are_read(rt: HostRuntime) -> Result<(), Fail> {
     assert_eq!(rt; taken.duplicate().as_str(), "take_1.wav");
     assert!(rt; Name::read(b".wav").is_none(), "begins with a dot");
     let mut words = Vec::new(rt.alloc());
-    for word in ["render", "in", "--period", "out"] {
+    for word in ["render", "in", "--period", "out", "--loops", "3"] {
         words.push(String::from_str(rt.alloc(), word)?)?;
     }
-    let Ok(Words::Render(files)) = words_of(&words) else {
+    let Ok(Words::Render(run)) = words_of(&words) else {
         return Err(Fail::from("not in the grammar"));
     };
-    assert_eq!(rt; files.input.as_str(), "in");
-    assert_eq!(rt; files.journal.as_str(), "--period");
-    assert_eq!(rt; files.out.as_str(), "out");
+    assert_eq!(rt; run.input.as_str(), "in");
+    assert_eq!(rt; run.journal.as_str(), "--period");
+    assert_eq!(rt; run.out.as_str(), "out");
+    assert_eq!(rt; (run.loops, run.period, run.chunks), (3, 1024, 4096));
+    assert!(rt; run.session.is_none(), "no session is named");
     assert_eq!(rt; Status::Memory.number(), 8);
     Ok(())
 }
