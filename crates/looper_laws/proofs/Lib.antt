@@ -5,5 +5,4 @@ pub mod Kept
 pub mod Others
 pub mod Undo
 pub mod Room
-pub mod Single
 pub mod InSpans

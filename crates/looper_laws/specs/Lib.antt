@@ -2,6 +2,5 @@ pub mod Places
 pub mod Questions
 pub mod OtherLayers
 pub mod Undoing
-pub mod SingleRun
 pub mod Apart
 pub mod Spans

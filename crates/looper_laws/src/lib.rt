@@ -11,14 +11,12 @@
 //! - `undoing`: undo and redo give back what stood before.
 //! - `shared_room`: loops share the chunks.
 //! - `spans`: a span of frames may be played one loop after another.
-//! - `one_loop_law`: the single loop that `render` plays is a looper of one loop.
 //!
 //! `specs/` has the words that only these laws need. The proofs stand in `proofs/`, a folder a notion. The rules are
 //! docs/rules.md, and docs/proved.md says which folder carries which law.
 #![tactic(auto)]
 
 mod cut_runs;
-mod one_loop_law;
 mod other_layers;
 mod reached;
 mod replies;
@@ -33,9 +31,6 @@ pub use cut_runs::{
     a_run_cut_at_a_frame_is_the_run, a_run_cut_at_an_entry_is_the_run,
     a_run_cut_between_entries_is_the_run, a_run_goes_on_where_its_first_frames_left_off,
     entries_to_come_change_nothing_before,
-};
-pub use one_loop_law::{
-    hits_that_record_once_are_a_journal, the_single_loop_is_a_looper_of_one_loop,
 };
 pub use other_layers::{
     a_frame_outside_a_writing_mode_keeps_every_list, a_get_changes_nothing,

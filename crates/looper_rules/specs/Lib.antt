@@ -32,4 +32,3 @@ pub mod WritePlaces
 pub mod Reached
 pub mod Sharing
 pub mod Worked
-pub mod OneLoop

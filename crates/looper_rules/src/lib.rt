@@ -9,21 +9,17 @@
 //! - `specs/Cuts` and `specs/Pins` have the parts of a run, and what holds a list that is saved.
 //! - `specs/States` has what holds of every loop and looper that a run reaches, `specs/Reached`
 //!   what makes it last, and `specs/Sharing` how loops share the chunks.
-//! - `specs/OneLoop` has the single loop that `render` plays: it records between two hits and then
-//!   repeats.
 //!
 //! Begin with `specs/Layers` and follow the order of `specs/Lib`. The functions here are worked
 //! runs, whose clauses compute. What holds of the definitions is proved in the crate `looper_laws`.
 //! The rules are docs/rules.md, under the same headings.
 #![tactic(auto)]
 
-mod one_loop;
 mod runs_of_controls;
 mod runs_of_lengths;
 mod runs_of_loops;
 mod runs_of_one_loop;
 
-pub use one_loop::OneMode;
 pub use runs_of_controls::{
     a_gain_moves_by_steps, a_long_press_ends_its_overdub, a_recording_waits_for_its_threshold,
     a_short_press_leaves_its_overdub_on, the_dry_gain_moves_by_steps,

@@ -2,11 +2,10 @@
 
 ghost use Rattle.std.specs.Prelude.{◌≡◌, None, if◌then◌else◌};
 ghost use Rattle.sl_base.specs.Counting.{raised};
-ghost use Rattle.sl_ports.specs.Reading.{ReadsWithin, is_failed, is_failed_within};
-ghost use Rattle.sl_ports.specs.RealEnds.{IsUnopened};
+ghost use Rattle.sl_ports.specs.Reading.{is_failed};
 
 use crate::keepers::{FileAnswer, KeepAnswer, Keeper};
-use crate::transfer::{read_whole, read_within, write_whole};
+use crate::transfer::{read_whole, write_whole};
 use sl_base::Name;
 use std::alloc::Global;
 use std::fs::{File, OpenFile};
@@ -74,19 +73,8 @@ fn is_failed(answer: &FileAnswer) -> bool
     }
 }
 
-fn is_failed_within(answer: &Option<FileAnswer>) -> bool
-    ensures { result ≡ is_failed_within answer.now }
-{
-    match answer {
-        Some(answer) => is_failed(answer),
-        None => false,
-    }
-}
-
 /// Why a file wasn't opened.
-fn unopened(e: &io::Error) -> FileAnswer
-    ensures { IsUnopened result }
-{
+fn unopened(e: &io::Error) -> FileAnswer {
     match e.kind() {
         ErrorKind::NotFound => FileAnswer::Missing,
         ErrorKind::OutOfMemory => FileAnswer::Memory,
@@ -98,15 +86,6 @@ fn read_named<R: Files>(rt: &R, alloc: Global, name: &str) -> FileAnswer {
     match fs::open(rt, name) {
         Ok(mut file) => read_whole(alloc, &mut file),
         Err(e) => unopened(&e),
-    }
-}
-
-fn read_named_within<R: Files>(rt: &R, alloc: Global, name: &str, most: usize) -> Option<FileAnswer>
-    ensures { ReadsWithin None name.now most result }
-{
-    match fs::open(rt, name) {
-        Ok(mut file) => read_within(alloc, &mut file, most),
-        Err(e) => Some(unopened(&e)),
     }
 }
 
@@ -144,12 +123,6 @@ impl<R: Files> Keeper for DirKeeper<R> {
     fn read_file(&mut self, alloc: Global, name: &Name) -> FileAnswer {
         let answer = read_named(&self.rt, alloc, name.as_str());
         self.count(is_failed(&answer));
-        answer
-    }
-
-    fn read_file_within(&mut self, alloc: Global, name: &Name, most: usize) -> Option<FileAnswer> {
-        let answer = read_named_within(&self.rt, alloc, name.as_str(), most);
-        self.count(is_failed_within(&answer));
         answer
     }
 

@@ -3,7 +3,7 @@
 ghost use Rattle.std.specs.Prelude.{◌≡◌, ℕ, Option};
 ghost use Rattle.sl_base.specs.Counting.{Counts};
 ghost use Rattle.sl_ports.specs.Files.{Files};
-ghost use Rattle.sl_ports.specs.Reading.{Reads, ReadsWithin, is_failed_within, is_failed as read_failed};
+ghost use Rattle.sl_ports.specs.Reading.{Reads, is_failed as read_failed};
 ghost use Rattle.sl_ports.specs.Keeping.{kept, is_failed as write_failed};
 
 use sl_base::Name;
@@ -49,15 +49,6 @@ pub trait Keeper {
         ensures counts { Counts (read_faults self.old) (read_faults self.new) (read_failed result) }
         ensures writes { write_faults self.new ≡ write_faults self.old }
         ensures value { Reads (files self.old) name.now result }
-        ensures unchanged { files self.new ≡ files self.old };
-
-    /// Reads a file of at most `most` bytes. One that has more is answered None, and isn't held
-    /// whole.
-    fn read_file_within(&mut self, alloc: Global, name: &Name, most: usize) -> Option<FileAnswer>
-        ensures counts { Counts
-            (read_faults self.old) (read_faults self.new) (is_failed_within result) }
-        ensures writes { write_faults self.new ≡ write_faults self.old }
-        ensures value { ReadsWithin (files self.old) name.now most result }
         ensures unchanged { files self.new ≡ files self.old };
 
     /// Writes a whole file, over one of the same name.

@@ -6,7 +6,7 @@ ghost use Rattle.std.specs.Str.{bytes_eq};
 ghost use Rattle.sl_ports.specs.Calls.{untried, is_to_fail, counted};
 ghost use Rattle.sl_ports.specs.Keeping.{is_failed as write_failed};
 ghost use Rattle.sl_ports.specs.MemoryEnds.{files_of, written_after, IsCopy};
-ghost use Rattle.sl_ports.specs.Reading.{Reads, ReadsWithin, is_failed_within, is_failed as read_failed};
+ghost use Rattle.sl_ports.specs.Reading.{Reads, is_failed as read_failed};
 
 use crate::calls::Calls;
 use crate::keepers::{FileAnswer, KeepAnswer, Keeper};
@@ -129,23 +129,6 @@ impl Keeper for MemKeeper {
         match self.file(name) {
             None => FileAnswer::Missing,
             Some(bytes) => copied(alloc, bytes),
-        }
-    }
-
-    fn read_file_within(&mut self, alloc: Global, name: &Name, most: usize) -> Option<FileAnswer>
-        ensures listed { is_failed_within result ≡ is_to_fail self.old.reads }
-        ensures value { ReadsWithin (Some (files_of self.old.written)) name.now most result }
-        ensures after { self.new ≡ record self.old {
-          reads = counted self.old.reads (is_failed_within result);
-        } }
-    {
-        if self.reads.count() {
-            return Some(FileAnswer::Failed);
-        }
-        match self.file(name) {
-            None => Some(FileAnswer::Missing),
-            Some(bytes) if bytes.len() > most => None,
-            Some(bytes) => Some(copied(alloc, bytes)),
         }
     }
 

@@ -22,13 +22,6 @@ fn told(answer: &FileAnswer) -> &[u8] {
     }
 }
 
-fn told_within(answer: &Option<FileAnswer>) -> &[u8] {
-    match answer {
-        Some(answer) => told(answer),
-        None => b"(longer)".as_slice(),
-    }
-}
-
 #[test]
 fn a_memory_sink_fails_at_the_listed_writes(rt: HostRuntime) -> Result<(), Fail> {
     let alloc = rt.alloc();
@@ -60,14 +53,6 @@ fn a_memory_keeper_fails_at_the_listed_calls(rt: HostRuntime) -> Result<(), Fail
     assert_eq!(rt; keeper.write_file(alloc, &take, b"third"), KeepAnswer::Done);
     assert_eq!(rt; told(&keeper.read_file(alloc, &take)), b"third".as_slice());
     assert_eq!(rt; keeper.file(&other).ok_or("other")?, b"other".as_slice());
-    assert_eq!(rt;
-        told_within(&keeper.read_file_within(alloc, &other, 5)),
-        b"other".as_slice()
-    );
-    assert_eq!(rt;
-        told_within(&keeper.read_file_within(alloc, &other, 4)),
-        b"(longer)".as_slice()
-    );
     assert!(rt; keeper.file(&name("none")?).is_none());
     Ok(())
 }
@@ -85,10 +70,6 @@ fn a_real_file_is_read_as_it_was_written(rt: HostRuntime) -> Result<(), Fail> {
     );
     let read = keeper.read_file(alloc, &file);
     assert_eq!(rt; told(&read), long.as_slice());
-    let read = keeper.read_file_within(alloc, &file, 150000);
-    assert_eq!(rt; told_within(&read), long.as_slice());
-    let read = keeper.read_file_within(alloc, &file, 149999);
-    assert_eq!(rt; told_within(&read), b"(longer)".as_slice());
     assert_eq!(rt; keeper.write_file(alloc, &file, b"short"), KeepAnswer::Done);
     assert_eq!(rt; told(&keeper.read_file(alloc, &file)), b"short".as_slice());
     assert!(rt; !fs::exists(&rt, NEW_FILE)?, "the new file has its name");

@@ -3,7 +3,7 @@
 ghost use Rattle.std.specs.Prelude.{OnOk};
 ghost use Rattle.std.specs.Io.{ReadsAtMost, WritesAtMost};
 ghost use Rattle.std.specs.Io.KnownBytes.{Appends, ReadConsumes, WriteAppends};
-ghost use Rattle.sl_ports.specs.Transfers.{ReadsWhole, ReadsWithin};
+ghost use Rattle.sl_ports.specs.Transfers.{ReadsWhole};
 
 use crate::keepers::FileAnswer;
 use std::alloc::Global;
@@ -61,45 +61,28 @@ fn said_length<F: OpenFile>(file: &F) -> usize {
     }
 }
 
-/// Reads an open file to its end, or answers None as soon as more than `most` bytes have come. What
-/// the file is said to have is reserved at once, so that its memory is not doubled on the way.
-pub fn read_within<F: Read + OpenFile>(
-    alloc: Global,
-    file: &mut F,
-    most: usize,
-) -> Option<FileAnswer>
-    ensures { ReadsWithin most (F.remaining file.old) result }
+/// Reads an open file to its end. What the file is said to have is reserved at once, so that its
+/// memory is not doubled on the way.
+pub fn read_whole<F: Read + OpenFile>(alloc: Global, file: &mut F) -> FileAnswer
+    ensures { ReadsWhole (F.remaining file.old) result }
 {
-    let Ok(mut bytes) = Vec::with_capacity(alloc, said_length(file).min(most)) else {
-        return Some(FileAnswer::Memory);
+    let Ok(mut bytes) = Vec::with_capacity(alloc, said_length(file)) else {
+        return FileAnswer::Memory;
     };
     let mut piece = [0; PIECE];
     'turns: for _ in 0..TURNS {
         match read_piece(file, &mut piece) {
-            Ok(0) => return Some(FileAnswer::Bytes(bytes)),
+            Ok(0) => return FileAnswer::Bytes(bytes),
             Ok(count) => {
-                if count > most - bytes.len() {
-                    return None;
-                }
                 if bytes.extend_from_slice(&piece[..count]).is_err() {
-                    return Some(FileAnswer::Memory);
+                    return FileAnswer::Memory;
                 }
             }
-            Err(e) if e.kind() == ErrorKind::OutOfMemory => return Some(FileAnswer::Memory),
-            Err(_) => return Some(FileAnswer::Failed),
+            Err(e) if e.kind() == ErrorKind::OutOfMemory => return FileAnswer::Memory,
+            Err(_) => return FileAnswer::Failed,
         }
     }
-    Some(FileAnswer::Failed)
-}
-
-/// Reads an open file to its end.
-pub fn read_whole<F: Read + OpenFile>(alloc: Global, file: &mut F) -> FileAnswer
-    ensures { ReadsWhole (F.remaining file.old) result }
-{
-    match read_within(alloc, file, usize::MAX) {
-        Some(answer) => answer,
-        None => FileAnswer::Failed,
-    }
+    FileAnswer::Failed
 }
 
 /// Writes all of the bytes. To take none of a piece that has some is an error.

@@ -11,10 +11,10 @@ use Rattle.byteorder.specs.Numbers.{little_from-append, little_number-reads_back
 use Rattle.sl_base.specs.Arithmetic.{IsSample, narrowed, widened}
 use Rattle.sl_base.specs.Sounds.{IsFrame, Sound, both}
 use Rattle.wav_pcm.specs.WavText.{IsFormat, frame_size, sample_bytes, frame_bytes, samples, twos_complement as bits_of}
-use Rattle.wav_pcm.specs.Mono16.{kept, kept_sample}
+use Rattle.wav_pcm.specs.Kept.{kept, kept_sample}
 use Rattle.wav_pcm.specs.Samples.{sample_at, frame_at, frames_in}
 use Rattle.wav_pcm.proofs.WavTextLemmas.{length-frame_bytes, length-sample_bytes}
-use Rattle.wav_pcm.proofs.Mono16Lemmas.{sample_of-bytes}
+use Rattle.wav_pcm.proofs.SampleLemmas.{sample_of-bytes}
 use Rattle.wav_pcm.proofs.ChunkLemmas.{not_below}
 
 -- numbers that differ are told apart

@@ -1,5 +1,5 @@
 pub mod WavTextLemmas
-pub mod Mono16Lemmas
+pub mod SampleLemmas
 pub mod WalkLemmas
 pub mod ChunkLemmas
 pub mod FormLemmas

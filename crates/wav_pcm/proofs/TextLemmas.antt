@@ -12,7 +12,7 @@ use Rattle.sl_base.specs.Sounds.{IsFrame, Sound}
 use Rattle.wav_pcm.specs.declared.fault.WavFault.{WavFault}
 use Rattle.wav_pcm.specs.declared.fault.WavFault.TheVariants.{NotRiff, Unsupported}
 use Rattle.wav_pcm.specs.WavText.{IsFormat, frame_size, samples, samples_size, padding, wav_text}
-use Rattle.wav_pcm.specs.Mono16.{kept}
+use Rattle.wav_pcm.specs.Kept.{kept}
 use Rattle.wav_pcm.specs.Reading.{Spelling, FormOf, Walk, is_riff, walk_of, is_spelling, is_supported, spelling_of, open_size, form_behind, form_by, form_of}
 use Rattle.wav_pcm.specs.Files.{Chunk, IsChunk, chunks_bytes, first_format, riff_of, AreThere, IsWav}
 use Rattle.wav_pcm.proofs.WavTextLemmas.{frame_size_within, length-samples}

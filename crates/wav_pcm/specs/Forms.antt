@@ -3,7 +3,7 @@
 use Rattle.std.specs.Prelude.{◌≡◌, ℕ, List, drop, Result, Ok, Err}
 use Rattle.wav_pcm.specs.declared.form.WavForm.{WavForm}
 use Rattle.wav_pcm.specs.declared.form.Spelling.{Spelling as SpellingOf}
-use Rattle.wav_pcm.specs.declared.read.Wav.{Wav}
+use Rattle.wav_pcm.specs.declared.file.Wav.{Wav}
 use Rattle.wav_pcm.specs.declared.fault.WavFault.{WavFault}
 use Rattle.wav_pcm.specs.Samples.{frames_in}
 use Rattle.wav_pcm.specs.Reading.{Spelling, FormOf}

@@ -1,5 +1,5 @@
 pub mod WavText
-pub mod Mono16
+pub mod Kept
 pub mod Faults
 pub mod Samples
 pub mod Reading

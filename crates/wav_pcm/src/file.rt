@@ -13,9 +13,20 @@ ghost use Rattle.wav_pcm.specs.Forms.{HoldsFrames, wav_spelling};
 use crate::fault::WavFault;
 use crate::form::{WavForm, wav_form};
 use crate::frames::read_frames;
-use crate::read::Wav;
 use sl_base::{Frame, Frames};
 use std::alloc::Global;
+
+/// A WAV file: its form and its frames.
+#[derive(Drop)]
+pub struct Wav {
+    /// Frames a second.
+    pub rate: u32,
+    /// 1 or 2.
+    pub channels: u8,
+    /// The bits of a sample, 16 or 24.
+    pub bits: u8,
+    pub frames: Frames,
+}
 
 /// Reads the frames of a form from its file.
 fn frames_of(alloc: Global, bytes: &[u8], form: WavForm) -> Result<Wav, WavFault>

@@ -6,13 +6,10 @@
 //! - `write_header` writes the bytes before the samples alone, for a text that is made a period after another.
 //! - `read_frames` and `write_samples` go over the samples of a period in place, in each of the four forms, and take no
 //!   memory.
-//! - `read_mono16` reads a file of one channel of 16 bits that is spelled as `wav_text` spells it, to the last byte.
-//!   Any other content is `None`.
-//! - `rate_of_mono16`, `read_mono16_samples` and `write_mono16_samples` do the same on bytes in place, and take no memory.
-//! - `wav_text`, `read_wav` and `read_mono16` answer `Memory` for want of memory, and nothing is left behind then.
+//! - `wav_text` and `read_wav` answer `Memory` for want of memory, and nothing is left behind then.
 //!
-//! Begin with `text`, then `file`, `form` and `walk`; `format`, `samples` and `frames` have the parts, `read` the one form of
-//! the first path, and `laws` what holds of the definitions.
+//! Begin with `text`, then `file`, `form` and `walk`; `format`, `samples` and `frames` have the parts, and `laws` what
+//! holds of the definitions.
 //! The rules are "WAV" in docs/formats.md.
 #![tactic(auto)]
 
@@ -22,7 +19,6 @@ mod form;
 mod format;
 mod frames;
 mod laws;
-mod read;
 mod samples;
 #[cfg(test)]
 mod tests;
@@ -30,14 +26,10 @@ mod text;
 mod walk;
 
 pub use fault::WavFault;
-pub use file::read_wav;
+pub use file::{Wav, read_wav};
 pub use form::{WavForm, wav_form};
 pub use format::write_header;
 pub use frames::read_frames;
-pub use laws::{
-    mono16_comes_back, mono16_has_one_reading, rate_0_is_not_supported, size_of_text,
-    wav_comes_back, wav_has_one_reading,
-};
-pub use read::{Wav, rate_of_mono16, read_mono16, read_mono16_samples};
-pub use samples::{write_mono16_samples, write_samples};
+pub use laws::{rate_0_is_not_supported, size_of_text, wav_comes_back, wav_has_one_reading};
+pub use samples::write_samples;
 pub use text::wav_text;

@@ -47,11 +47,3 @@ pub fn write_samples(out: &mut [u8], frames: &[Frame], channels: u8, bits: u8)
         write_frame(&mut out[place * size..], frames[place], channels, bits);
     }
 }
-
-/// Writes frames in one channel of 16 bits. `out` has two bytes for each.
-pub fn write_mono16_samples(out: &mut [u8], frames: &[Frame])
-    requires room { length out.old ≡ 2 * length frames.now }
-    ensures { out.new ≡ samples 1 16 frames.now }
-{
-    write_samples(out, frames, 1, 16);
-}

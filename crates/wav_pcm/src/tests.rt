@@ -27,19 +27,13 @@ fn frames_of(alloc: Global, samples: &[i16]) -> Result<Vec<Frame>, AllocError> {
 }
 
 #[test]
-fn eight_samples_are_written_and_read(rt: HostRuntime) -> Result<(), Fail> {
+fn eight_samples_are_written(rt: HostRuntime) -> Result<(), Fail> {
     let frames = frames_of(rt.alloc(), &[1, 2, 3, 4, 5, 6, 7, 8])?;
     assert!(rt; frames.len() <= 8);
     let text = wav_text(rt.alloc(), &frames, 1, 16, 48000)
         .ok()
         .ok_or("no memory")?;
     assert_eq!(rt; text.as_slice(), EIGHT_SAMPLES);
-    let read = read_mono16(rt.alloc(), EIGHT_SAMPLES)
-        .ok()
-        .ok_or("no memory")?;
-    let wav = read.ok_or("not read")?;
-    assert_eq!(rt; (wav.rate, wav.channels, wav.bits), (48000, 1, 16));
-    assert_eq!(rt; wav.frames.as_slice(), frames.as_slice());
     Ok(())
 }
 
@@ -51,24 +45,6 @@ fn four_frames_of_24_bits_are_written(rt: HostRuntime) -> Result<(), Fail> {
         .ok()
         .ok_or("no memory")?;
     assert_eq!(rt; text.as_slice(), FOUR_FRAMES);
-    let read = read_mono16(rt.alloc(), FOUR_FRAMES)
-        .ok()
-        .ok_or("no memory")?;
-    assert!(rt; read.is_none());
-    Ok(())
-}
-
-#[test]
-fn eight_samples_are_read_and_written_in_place(rt: HostRuntime) -> Result<(), Fail> {
-    assert_eq!(rt; rate_of_mono16(EIGHT_SAMPLES), Some(48000));
-    assert!(rt; rate_of_mono16(FOUR_FRAMES).is_none());
-    let mut frames = [Frame::silence(); 8];
-    read_mono16_samples(&EIGHT_SAMPLES[44..], &mut frames);
-    let expected = frames_of(rt.alloc(), &[1, 2, 3, 4, 5, 6, 7, 8])?;
-    assert_eq!(rt; frames.as_slice(), expected.as_slice());
-    let mut bytes = [0u8; 16];
-    write_mono16_samples(&mut bytes, &frames);
-    assert_eq!(rt; bytes.as_slice(), &EIGHT_SAMPLES[44..]);
     Ok(())
 }
 

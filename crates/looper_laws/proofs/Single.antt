@@ -1,3 +1,0 @@
--- The single loop is a looper of one loop.
-pub mod Stages
-pub mod Runs
