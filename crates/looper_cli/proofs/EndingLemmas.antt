@@ -1,5 +1,5 @@
 -- How a command ends, from what it answers.
-use Rattle.std.proofs.Common.{◌≡◌, ℕ, List, [], Option, Some, None, sym, ◌∙◌, subst, refl, inl, inr, ◌⊎◌}
+use Rattle.std.proofs.Common.{◌≡◌, ℕ, List, Option, Some, None, sym, ◌∙◌, subst, refl, inl, inr, ◌⊎◌}
 use Rattle.std.specs.Prelude.{Ok, Err, IfSome}
 use Rattle.std.specs.String.{string_bytes}
 use Rattle.std.specs.declared.string.String.{String}
@@ -9,7 +9,6 @@ use Rattle.sl_ports.specs.Files.{Files}
 use Rattle.sl_ports.specs.Texts.{AppendsPrefix}
 use Rattle.sl_ports.specs.declared.keepers.Keeper.{Ghosts as Keeper}
 use Rattle.sl_ports.specs.declared.sinks.Sink.{Ghosts as Sink}
-use Rattle.run_files.specs.Named.{IsNamed}
 use Rattle.run_files.specs.AllFiles.{IsRunOf}
 use Rattle.run_files.proofs.PartLemmas.{loaded_or_bad}
 use Rattle.run_files.proofs.RunLemmas.{run_or_bad, run_or_limit}

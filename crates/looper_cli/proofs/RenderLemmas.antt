@@ -1,29 +1,23 @@
 -- What a run of `render` leaves, from what its parts did.
-use Rattle.std.proofs.Common.{◌≡◌, ℕ, ◌≤◌, ◌<◌, List, [], ◌∷◌, ◌++◌, length, map, Option, Some, None, ap, sym, ◌∙◌, subst, refl, arith, false, inl, inr, ◌⊎◌}
-use Rattle.std.specs.Prelude.{Result, Ok, Err, IfSome}
+use Rattle.std.proofs.Common.{◌≡◌, ℕ, ◌<◌, List, [], ◌∷◌, ◌++◌, length, map, Option, ap, sym, ◌∙◌, subst, refl, arith, false, inl, inr}
+use Rattle.std.specs.Prelude.{Result, Ok, Err}
 use Rattle.std.specs.String.{string_bytes}
-use Rattle.std.specs.declared.string.String.{String}
-use Rattle.std.specs.declared.alloc.Global.{Global}
-use Rattle.std.specs.Io.KnownBytes.{Appends}
 use Rattle.sl_base.specs.Counting.{Rose}
 use Rattle.sl_ports.specs.Files.{Files, put_told}
 use Rattle.sl_ports.specs.Effects.{OnlyReads}
-use Rattle.sl_ports.specs.Texts.{AppendsPrefix}
 use Rattle.sl_ports.specs.declared.keepers.Keeper.{Ghosts as Keeper}
-use Rattle.sl_ports.specs.declared.sinks.Sink.{Ghosts as Sink}
 use Rattle.sl_commands.specs.declared.Entry.{Entry}
 use Rattle.looper_rules.specs.Room.{used}
 use Rattle.looper_rules.specs.Run.{start}
-use Rattle.loop_saver.specs.SavedFiles.{SavedFile, put_all}
+use Rattle.loop_saver.specs.SavedFiles.{put_all}
 use Rattle.loop_saver.specs.Accepting.{WritesFirst}
 use Rattle.loop_saver.proofs.AcceptLemmas.{put_all-append, writes_all, writes_before}
 use Rattle.journal_run.specs.Playing.{Plays}
 use Rattle.journal_run.specs.Performing.{saved_by}
-use Rattle.journal_run.specs.RunTexts.{run_text}
 use Rattle.journal_run.specs.declared.ending.Performed.{Performed}
 use Rattle.journal_run.specs.declared.starting.PlayFault.{PlayFault}
 use Rattle.journal_run.specs.declared.starting.PlayFault.TheVariants.{Limit as TooFew, Writing as Unwritten, Memory as Wanted}
-use Rattle.run_files.specs.Named.{Named, IsNamed}
+use Rattle.run_files.specs.Named.{Named}
 use Rattle.run_files.specs.AllFiles.{Told, IsRunOf, ExceedsLimit, FirstBad}
 use Rattle.run_files.specs.Readings.{ReadsRun, is_unread}
 use Rattle.run_files.specs.declared.run.RunFiles.{RunFiles}
@@ -33,9 +27,9 @@ use Rattle.looper_cli.specs.Words.{RenderAsked}
 use Rattle.looper_cli.specs.Named.{named_of}
 use Rattle.looper_cli.specs.Console.{done_text}
 use Rattle.looper_cli.specs.Statuses.{status_line}
-use Rattle.looper_cli.specs.Endings.{input_of, looper_of, ran_of, out_file, files_of_run, text_of_run, Renders, RendersFirst, StaysWhole, FailsBy, PassesFiles, PassesPlay}
+use Rattle.looper_cli.specs.Endings.{input_of, looper_of, out_file, files_of_run, Renders, RendersFirst, FailsBy, PassesFiles, PassesPlay}
 use Rattle.looper_cli.specs.declared.status.RunFault.{RunFault}
-use Rattle.looper_cli.specs.declared.status.RunFault.TheVariants.{BadFile as IsBad, Limit as Beyond, Reading, Writing, Memory as Lacking}
+use Rattle.looper_cli.specs.declared.status.RunFault.TheVariants.{Memory as Lacking}
 use Rattle.looper_cli.specs.declared.status.Status.TheVariants.{Done}
 
 -- the answer of a reading that ended with a fault

@@ -1,8 +1,8 @@
 -- Options are read two words at a time, and three names stand before them.
 use Rattle.std.proofs.Common.{◌≡◌, ℕ, zero, suc, ◌+◌, ◌<◌, ◌≤◌, List, [], ◌∷◌, length, map, drop, get_or, refl, sym, ap, ap₂, ◌∙◌, arith}
-use Rattle.std.specs.Prelude.{Option, Some, None}
+use Rattle.std.specs.Prelude.{Some, None}
 use Rattle.std.specs.Option.{option_and_then}
-use Rattle.looper_cli.specs.Words.{Given, Asked, none_given, with_option, options_in, run_named, render_in}
+use Rattle.looper_cli.specs.Words.{Given, none_given, with_option, options_in, run_named, render_in}
 
 -- one word alone is no option
 pub one_left : {X : Type 0} (text : X → List ℕ) (words : List X) (at : ℕ) (g : Given) →

@@ -1,4 +1,4 @@
-use Rattle.std.proofs.Common.{◌≡◌, ◌+◌, ◌<◌, ◌≤◌, ℕ, List, length, sym, ap₂, ◌∙◌, arith}
+use Rattle.std.proofs.Common.{◌+◌, ◌<◌, ℕ, List, length, sym, ap₂, ◌∙◌, arith}
 use Rattle.std.specs.String.{string_bytes}
 use Rattle.looper_cli.specs.Words.{with_option}
 use Rattle.looper_cli.proofs.WordListLemmas.{one_left, options_on}
