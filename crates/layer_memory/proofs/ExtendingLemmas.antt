@@ -16,30 +16,55 @@ use Rattle.layer_memory.specs.declared.layers.Top.{Top}
 use Rattle.layer_memory.proofs.SeenLemmas.{dropped-mapped, extended-mapped, extension-mapped, extended_if-mapped, append-mapped}
 use Rattle.layer_memory.proofs.KeptLemmas.{contents-marked, end-within, current-total, list-below, marked-below}
 
-based-on : (over : Bool) (t : Top) (d : FillOf) (closed : List (Layer ℕ)) → 0 < length (base_on over closed) → (length (base_on over closed) ≡ length (current_list closed)) × (base_seams_on over closed ≡ current_seams closed)
+based-on : (over : Bool) (t : Top) (d : FillOf) (closed : List (Layer ℕ)) →
+    0 < length (base_on over closed) → (length (base_on over closed) ≡ length (current_list closed))
+    × (base_seams_on over closed ≡ current_seams closed)
 based-on true t d closed lt = (refl, refl)
 based-on false t d closed lt = grind (arith, lt)
 
 -- a base that isn't empty is the list below
-pub based : (top : Option Top) (d : FillOf) (closed : List (Layer ℕ)) → 0 < current_base_length (stacked top d closed) → IsTrue (is_some top) → (current_base_length (stacked top d closed) ≡ length (current_list closed)) × (current_base_seams (stacked top d closed) ≡ current_seams closed)
+pub based : (top : Option Top) (d : FillOf) (closed : List (Layer ℕ)) →
+    0 < current_base_length (stacked top d closed) → IsTrue (is_some top) →
+    (current_base_length (stacked top d closed) ≡ length (current_list closed))
+    × (current_base_seams (stacked top d closed) ≡ current_seams closed)
 based None d closed lt w = grind (arith, w)
 based (Some t) d closed lt w = based-on t.over t d closed lt
 
-pub extend-below : (floor : ℕ) (closed : List (Layer ℕ)) → current_end closed ≤ floor → Ordered closed → Below floor (current_list closed)
+pub extend-below : (floor : ℕ) (closed : List (Layer ℕ)) → current_end closed ≤ floor →
+    Ordered closed → Below floor (current_list closed)
 extend-below floor closed le o = list-below floor closed le o
 
-marked-extended : (floor : ℕ) (xs ys : List ℕ) → Below floor ys → marked floor (xs ++ ys) ≡ marked floor xs ++ old_cells ys
-marked-extended floor xs ys b = rw (append-mapped (marked_cell floor) xs ys, marked-below floor ys b) refl
+marked-extended : (floor : ℕ) (xs ys : List ℕ) → Below floor ys →
+    marked floor (xs ++ ys) ≡ marked floor xs ++ old_cells ys
+marked-extended floor xs ys b =
+    rw (append-mapped (marked_cell floor) xs ys, marked-below floor ys b) refl
 
-stack-extended-on : (over : Bool) (tape : TapeOf) (closed : LayersOf) (d d' : FillOf) (cycle end : ℕ) (pin : Option ℕ) (pinned : List ℕ) → 0 < length (base_on over closed.layers) → Below d.floor (current_list closed.layers) → d'.cells ≡ d.cells ++ current_list closed.layers → d'.seams ≡ d.seams + current_seams closed.layers → d'.floor ≡ d.floor → d'.run ≡ d.run → (held_by tape closed d' (Some (record { over = over; cycle = cycle; end = end })) pin pinned).stack ≡ extended (held_by tape closed d (Some (record { over = over; cycle = cycle; end = end })) pin pinned).stack
-stack-extended-on true tape closed d d' cycle end pin pinned lt b ec es ef er = rw (ec, es, ef, er, marked-extended d.floor d.cells (current_list closed.layers) b) refl
+stack-extended-on : (over : Bool) (tape : TapeOf) (closed : LayersOf) (d d' : FillOf)
+    (cycle end : ℕ) (pin : Option ℕ) (pinned : List ℕ) → 0 < length (base_on over closed.layers) →
+    Below d.floor (current_list closed.layers) → d'.cells ≡ d.cells ++ current_list closed.layers →
+    d'.seams ≡ d.seams + current_seams closed.layers → d'.floor ≡ d.floor → d'.run ≡ d.run →
+    (held_by tape closed d' (Some (record { over = over; cycle = cycle; end = end })) pin
+    pinned).stack ≡ extended
+    (held_by tape closed d (Some (record { over = over; cycle = cycle; end = end })) pin
+    pinned).stack
+stack-extended-on true tape closed d d' cycle end pin pinned lt b ec es ef er =
+    rw (ec, es, ef, er, marked-extended d.floor d.cells (current_list closed.layers) b) refl
 stack-extended-on false tape closed d d' cycle end pin pinned lt b ec es ef er = grind (arith, lt)
 
-pub stack-extended : (tape : TapeOf) (closed : LayersOf) (d d' : FillOf) (top : Option Top) (pin : Option ℕ) (pinned : List ℕ) (ps : List Piece) (more : ℕ) → IsTrue (is_some top) → 0 < current_base_length (stacked top d closed.layers) → Ordered closed.layers → MayBeOpen tape.len closed d top pin pinned → addresses ps ≡ current_list closed.layers → more ≡ current_seams closed.layers → d' ≡ fill_extended ps more d → (held_by tape closed d' top pin pinned).stack ≡ extended (held_by tape closed d top pin pinned).stack
+pub stack-extended : (tape : TapeOf) (closed : LayersOf) (d d' : FillOf) (top : Option Top)
+    (pin : Option ℕ) (pinned : List ℕ) (ps : List Piece) (more : ℕ) → IsTrue (is_some top) →
+    0 < current_base_length (stacked top d closed.layers) → Ordered closed.layers →
+    MayBeOpen tape.len closed d top pin pinned → addresses ps ≡ current_list closed.layers →
+    more ≡ current_seams closed.layers → d' ≡ fill_extended ps more d →
+    (held_by tape closed d' top pin pinned).stack ≡ extended
+    (held_by tape closed d top pin pinned).stack
 stack-extended tape closed d d' None pin pinned ps more w lt o m ex em ed = grind (arith, w)
 stack-extended tape closed d d' (Some t) pin pinned ps more w lt o m ex em ed =
-    let le : current_end closed.layers ≤ d.floor = let x = m.end in let y = m.floor in omega (arith, x, y) in
-    stack-extended-on t.over tape closed d d' t.cycle t.end pin pinned lt (list-below d.floor closed.layers le o) (rw (ed, ex) refl) (rw (ed, em) refl) (rw ed refl) (rw ed refl)
+    let le : current_end closed.layers ≤ d.floor = let x = m.end in let y = m.floor in
+    omega (arith, x, y) in
+    stack-extended-on t.over tape closed d d' t.cycle t.end pin pinned lt
+    (list-below d.floor closed.layers le o) (rw (ed, ex) refl) (rw (ed, em) refl) (rw ed refl)
+    (rw ed refl)
 
 pub open-floor : (tape : ℕ) (closed : LayersOf) (d : FillOf) (top : Option Top) (pin : Option ℕ) (pinned xs : List ℕ) → IsTrue (is_some top) → Ordered closed.layers → MayBeOpen tape closed d top pin pinned → xs ≡ current_list closed.layers → Below d.floor xs
 open-floor tape closed d None pin pinned xs w o m e = grind (arith, w)

@@ -33,15 +33,20 @@ no-base-below : (n : ℕ) (xs : List ℕ) → xs ≡ [] → Below n xs
 no-base-below n xs e = rw e tt
 
 low-below : (n : ℕ) (l : Layer ℕ) → l.end ≤ n → IsLow l → LayerBelow n l
-low-below n l le w = (below-more l.end n (contents l.cells) le w.below, no-base-below n l.base w.no_base)
+low-below n l le w =
+    (below-more l.end n (contents l.cells) le w.below, no-base-below n l.base w.no_base)
 
-pub ordered-below : (n : ℕ) (ls : List (Layer ℕ)) → current_end ls ≤ n → Ordered ls → AllByRecursion (LayerBelow n) ls
+pub ordered-below : (n : ℕ) (ls : List (Layer ℕ)) → current_end ls ≤ n → Ordered ls →
+    AllByRecursion (LayerBelow n) ls
 ordered-below n [] le o = tt
-ordered-below n (l ∷ ls) le o = (low-below n l le o.1.0, ordered-below n ls (omega (arith, le, o.0)) o.1.1)
+ordered-below n (l ∷ ls) le o =
+    (low-below n l le o.1.0, ordered-below n ls (omega (arith, le, o.0)) o.1.1)
 
-pub redo-below : (n end : ℕ) (ls : List (Layer ℕ)) → GoesOn n end ls → AllByRecursion (LayerBelow n) ls
+pub redo-below : (n end : ℕ) (ls : List (Layer ℕ)) → GoesOn n end ls →
+    AllByRecursion (LayerBelow n) ls
 redo-below n end [] g = tt
-redo-below n end (l ∷ ls) g = (low-below n l (end-within n l.end ls g.1.1) g.1.0, redo-below n l.end ls g.1.1)
+redo-below n end (l ∷ ls) g =
+    (low-below n l (end-within n l.end ls g.1.1) g.1.0, redo-below n l.end ls g.1.1)
 
 pub pin-below : (n : ℕ) (p : Option (Pin ℕ)) → PinWithin n p → PinBelow n p
 pin-below n None w = tt
@@ -51,19 +56,32 @@ pub contents-marked : (floor : ℕ) (xs : List ℕ) → contents (marked floor x
 contents-marked floor [] = refl
 contents-marked floor (x ∷ xs) = ap (λ t. x ∷ t) (contents-marked floor xs)
 
-pub list-below : (n : ℕ) (ls : List (Layer ℕ)) → current_end ls ≤ n → Ordered ls → Below n (current_list ls)
+pub list-below : (n : ℕ) (ls : List (Layer ℕ)) → current_end ls ≤ n → Ordered ls →
+    Below n (current_list ls)
 list-below n [] le o = tt
 list-below n (l ∷ ls) le o = below-more l.end n (contents l.cells) le o.1.0.below
 
-pub base-below : (n : ℕ) (over : Bool) (ls : List (Layer ℕ)) → current_end ls ≤ n → Ordered ls → Below n (base_on over ls)
+pub base-below : (n : ℕ) (over : Bool) (ls : List (Layer ℕ)) → current_end ls ≤ n → Ordered ls →
+    Below n (base_on over ls)
 base-below n true ls le o = list-below n ls le o
 base-below n false ls le o = tt
 
-stacked-below : (tape : ℕ) (closed : LayersOf) (d : FillOf) (top : Option Top) (pin : Option ℕ) (pinned : List ℕ) → IsFill d → Ordered closed.layers → current_end closed.layers ≤ tape → MayBeOpen tape closed d top pin pinned → AllByRecursion (LayerBelow tape) (stacked top d closed.layers)
+stacked-below : (tape : ℕ) (closed : LayersOf) (d : FillOf) (top : Option Top) (pin : Option ℕ)
+    (pinned : List ℕ) → IsFill d → Ordered closed.layers → current_end closed.layers ≤ tape →
+    MayBeOpen tape closed d top pin pinned →
+    AllByRecursion (LayerBelow tape) (stacked top d closed.layers)
 stacked-below tape closed d None pin pinned i o le m = ordered-below tape closed.layers le o
-stacked-below tape closed d (Some t) pin pinned i o le m = ((rw (contents-marked d.floor d.cells, sym m.next) i.below, base-below tape t.over closed.layers le o), ordered-below tape closed.layers le o)
+stacked-below tape closed d (Some t) pin pinned i o le m = (
+  (
+    rw (contents-marked d.floor d.cells, sym m.next) i.below,
+    base-below tape t.over closed.layers le o,
+  ),
+  ordered-below tape closed.layers le o,
+)
 
-pub holds-low : (tape : TapeOf) (closed : LayersOf) (d : FillOf) (top : Option Top) (pin : Option ℕ) (pinned : List ℕ) (seams : ℕ) → Holds tape.len closed d top pin pinned seams → IsFill d → StackBelow tape.len (held_by tape closed d top pin pinned).stack
+pub holds-low : (tape : TapeOf) (closed : LayersOf) (d : FillOf) (top : Option Top) (pin : Option ℕ)
+    (pinned : List ℕ) (seams : ℕ) → Holds tape.len closed d top pin pinned seams → IsFill d →
+    StackBelow tape.len (held_by tape closed d top pin pinned).stack
 holds-low tape closed d top pin pinned seams h i =
     let le = end-within tape.len (current_end closed.layers) closed.redo h.goes_on in
     record {
@@ -74,10 +92,13 @@ holds-low tape closed d top pin pinned seams h i =
 
 pub marked-below : (floor : ℕ) (xs : List ℕ) → Below floor xs → marked floor xs ≡ old_cells xs
 marked-below floor [] b = refl
-marked-below floor (x ∷ xs) b = let e : nat_le floor x ≡ false = grind (arith, b.0) in rw (e, marked-below floor xs b.1) refl
+marked-below floor (x ∷ xs) b = let e : nat_le floor x ≡ false = grind (arith, b.0) in
+    rw (e, marked-below floor xs b.1) refl
 
 -- the end of the current layer is at most the tape length, also of an open one
-pub stacked-end : (tape : ℕ) (closed : LayersOf) (d : FillOf) (t : Top) (pin : Option ℕ) (pinned : List ℕ) → IsFill d → MayBeOpen tape closed d (Some t) pin pinned → t.end ≤ tape
-stacked-end tape closed d t pin pinned i m = let x = m.floor in let y = i.floor in let z = m.next in omega (arith, x, y, z)
+pub stacked-end : (tape : ℕ) (closed : LayersOf) (d : FillOf) (t : Top) (pin : Option ℕ)
+    (pinned : List ℕ) → IsFill d → MayBeOpen tape closed d (Some t) pin pinned → t.end ≤ tape
+stacked-end tape closed d t pin pinned i m = let x = m.floor in let y = i.floor in let z = m.next in
+    omega (arith, x, y, z)
 
 pub ruleset steps = (end-within, current-total, stacked-end)

@@ -23,14 +23,19 @@ pub pinned-below : (n : ℕ) (p : Option (Pin ℕ)) → PinBelow n p → Below n
 pinned-below n None b = tt
 pinned-below n (Some p) b = b
 
-pub saved-below : (n place : ℕ) (s : Stack ℕ) → StackBelow n s → place < length (pinned_list s.pin) → get_or (pinned_list s.pin) place 0 < n
+pub saved-below : (n place : ℕ) (s : Stack ℕ) → StackBelow n s →
+    place < length (pinned_list s.pin) → get_or (pinned_list s.pin) place 0 < n
 saved-below n place s b lt = below-at n place (pinned_list s.pin) lt (pinned-below n s.pin b.pin)
 
-saved-mapped : {A B : Type 0} (f : A → B) (p : Option (Pin A)) (place : ℕ) (a : A) (b : B) → place < length (pinned_list p) → get_or (pinned_list (pin_map f p)) place b ≡ f (get_or (pinned_list p) place a)
+saved-mapped : {A B : Type 0} (f : A → B) (p : Option (Pin A)) (place : ℕ) (a : A) (b : B) →
+    place < length (pinned_list p) →
+    get_or (pinned_list (pin_map f p)) place b ≡ f (get_or (pinned_list p) place a)
 saved-mapped f None place a b lt = grind arith
 saved-mapped f (Some p) place a b lt = get-mapped f p.list place a b lt
 
-pub saved-seen : (h : Held) (p : PoolOf) (place : ℕ) → place < length (pinned_list h.stack.pin) → get_or (pinned_list (seen h p).pin) place silence ≡ at h.tape p (get_or (pinned_list h.stack.pin) place 0)
+pub saved-seen : (h : Held) (p : PoolOf) (place : ℕ) → place < length (pinned_list h.stack.pin) →
+    get_or (pinned_list (seen h p).pin) place silence ≡ at h.tape p
+    (get_or (pinned_list h.stack.pin) place 0)
 saved-seen h p place lt = saved-mapped (at h.tape p) h.stack.pin place 0 silence lt
 
 unmarked-same : (l : Layer ℕ) → l.cells ≡ unmarked l.cells → unmarked_layer l ≡ l
@@ -40,29 +45,51 @@ current-unmarked : (ls : List (Layer ℕ)) → Ordered ls → with_current unmar
 current-unmarked [] o = refl
 current-unmarked (l ∷ ls) o = ap (λ (x : Layer ℕ). x ∷ ls) (unmarked-same l o.1.0.not_fresh)
 
-pub stack-pinned-closed : (tape : TapeOf) (closed : LayersOf) (d : FillOf) (top : Option Top) (pin : Option ℕ) (pinned_before xs : List ℕ) (n : ℕ) → IsFalse (is_some top) → Ordered closed.layers → xs ≡ current_list closed.layers → n ≡ tape.len → (held_by tape closed d top (Some n) xs).stack ≡ pinned (held_by tape closed d top pin pinned_before).stack
+pub stack-pinned-closed : (tape : TapeOf) (closed : LayersOf) (d : FillOf) (top : Option Top)
+    (pin : Option ℕ) (pinned_before xs : List ℕ) (n : ℕ) → IsFalse (is_some top) →
+    Ordered closed.layers → xs ≡ current_list closed.layers → n ≡ tape.len →
+    (held_by tape closed d top (Some n) xs).stack ≡ pinned
+    (held_by tape closed d top pin pinned_before).stack
 stack-pinned-closed tape closed d (Some t) pin pinned_before xs n w o ex en = grind (arith, w)
-stack-pinned-closed tape closed d None pin pinned_before xs n w o ex en = rw (ex, en, current-unmarked closed.layers o) refl
+stack-pinned-closed tape closed d None pin pinned_before xs n w o ex en =
+    rw (ex, en, current-unmarked closed.layers o) refl
 
-pub held-pinned-closed : (tape n : ℕ) (closed : LayersOf) (d : FillOf) (top : Option Top) (pin : Option ℕ) (pinned_before xs : List ℕ) (seams : ℕ) → IsFalse (is_some top) → Holds tape closed d top pin pinned_before seams → xs ≡ current_list closed.layers → n ≡ tape → Holds tape closed d top (Some n) xs seams
+pub held-pinned-closed : (tape n : ℕ) (closed : LayersOf) (d : FillOf) (top : Option Top)
+    (pin : Option ℕ) (pinned_before xs : List ℕ) (seams : ℕ) → IsFalse (is_some top) →
+    Holds tape closed d top pin pinned_before seams → xs ≡ current_list closed.layers → n ≡ tape →
+    Holds tape closed d top (Some n) xs seams
 held-pinned-closed tape n closed d (Some t) pin pinned_before xs seams w h ex en = grind (arith, w)
 held-pinned-closed tape n closed d None pin pinned_before xs seams w h ex en = record {
   ordered = h.ordered;
   goes_on = h.goes_on;
-  pin_within = rw (ex, en) (omega arith, list-below tape closed.layers (end-within tape (current_end closed.layers) closed.redo h.goes_on) h.ordered);
+  pin_within = rw (ex, en) (
+    omega arith,
+    list-below tape closed.layers
+        (end-within tape (current_end closed.layers) closed.redo h.goes_on) h.ordered,
+  );
   opened = tt;
   total = h.total;
 }
 
-marks-cleared : (floor : ℕ) (xs : List ℕ) (next : ℕ) → Below next xs → marked next xs ≡ unmarked (marked floor xs)
+marks-cleared : (floor : ℕ) (xs : List ℕ) (next : ℕ) → Below next xs →
+    marked next xs ≡ unmarked (marked floor xs)
 marks-cleared floor xs next b = rw (contents-marked floor xs, marked-below next xs b) refl
 
-pub stack-pinned-open : (tape : TapeOf) (closed : LayersOf) (d d' : FillOf) (top : Option Top) (pin : Option ℕ) (pinned_before xs : List ℕ) (n : ℕ) → IsTrue (is_some top) → Below d.next d.cells → d' ≡ fill_frozen d → xs ≡ d.cells → n ≡ tape.len → (held_by tape closed d' top (Some n) xs).stack ≡ pinned (held_by tape closed d top pin pinned_before).stack
+pub stack-pinned-open : (tape : TapeOf) (closed : LayersOf) (d d' : FillOf) (top : Option Top)
+    (pin : Option ℕ) (pinned_before xs : List ℕ) (n : ℕ) → IsTrue (is_some top) →
+    Below d.next d.cells → d' ≡ fill_frozen d → xs ≡ d.cells → n ≡ tape.len →
+    (held_by tape closed d' top (Some n) xs).stack ≡ pinned
+    (held_by tape closed d top pin pinned_before).stack
 stack-pinned-open tape closed d d' None pin pinned_before xs n w b ed ex en = grind (arith, w)
-stack-pinned-open tape closed d d' (Some t) pin pinned_before xs n w b ed ex en = rw (ed, ex, en, marks-cleared d.floor d.cells d.next b, contents-marked d.floor d.cells) refl
+stack-pinned-open tape closed d d' (Some t) pin pinned_before xs n w b ed ex en =
+    rw (ed, ex, en, marks-cleared d.floor d.cells d.next b, contents-marked d.floor d.cells) refl
 
-pub held-pinned-open : (tape n : ℕ) (closed : LayersOf) (d d' : FillOf) (top : Option Top) (pin : Option ℕ) (pinned_before xs : List ℕ) (seams : ℕ) → IsTrue (is_some top) → IsFill d → Holds tape closed d top pin pinned_before seams → d' ≡ fill_frozen d → xs ≡ d.cells → n ≡ tape → Holds tape closed d' top (Some n) xs seams
-held-pinned-open tape n closed d d' None pin pinned_before xs seams w i h ed ex en = grind (arith, w)
+pub held-pinned-open : (tape n : ℕ) (closed : LayersOf) (d d' : FillOf) (top : Option Top)
+    (pin : Option ℕ) (pinned_before xs : List ℕ) (seams : ℕ) → IsTrue (is_some top) → IsFill d →
+    Holds tape closed d top pin pinned_before seams → d' ≡ fill_frozen d → xs ≡ d.cells → n ≡ tape →
+    Holds tape closed d' top (Some n) xs seams
+held-pinned-open tape n closed d d' None pin pinned_before xs seams w i h ed ex en =
+    grind (arith, w)
 held-pinned-open tape n closed d d' (Some t) pin pinned_before xs seams w i h ed ex en =
     let next = h.opened.next in
     let low : Below tape d.cells = rw (sym next) i.below in
@@ -83,11 +110,15 @@ held-pinned-open tape n closed d d' (Some t) pin pinned_before xs seams w i h ed
     })
 
 -- the frames from a place of the pinned list on
-pub saved-span-seen : (h : Held) (p : PoolOf) (n place : ℕ) → take n (drop place (pinned_list (seen h p).pin)) ≡ map (at h.tape p) (take n (drop place (pinned_list h.stack.pin)))
-saved-span-seen h p n place = rw (pinned_list-mapped (at h.tape p) h.stack.pin) (sym (span-mapped (at h.tape p) n place (pinned_list h.stack.pin)))
+pub saved-span-seen : (h : Held) (p : PoolOf) (n place : ℕ) →
+    take n (drop place (pinned_list (seen h p).pin)) ≡ map (at h.tape p)
+    (take n (drop place (pinned_list h.stack.pin)))
+saved-span-seen h p n place = rw (pinned_list-mapped (at h.tape p) h.stack.pin)
+    (sym (span-mapped (at h.tape p) n place (pinned_list h.stack.pin)))
 
 -- the pinned list is below the tape length, where something of it is read
-pub saved-low : (n : ℕ) (pin : Option ℕ) (list : List ℕ) (place k : ℕ) → 0 < k → place + k ≤ length (pinned_list (pin_of pin list)) → PinBelow n (pin_of pin list) → Below n list
+pub saved-low : (n : ℕ) (pin : Option ℕ) (list : List ℕ) (place k : ℕ) → 0 < k →
+    place + k ≤ length (pinned_list (pin_of pin list)) → PinBelow n (pin_of pin list) → Below n list
 saved-low n None list place k some le b = absurd (omega (arith, some, le))
 saved-low n (Some t) list place k some le b = b
 
@@ -96,7 +127,8 @@ pub nothing-read : (out xs : List Sound) → length out ≡ 0 → out ≡ take (
 nothing-read [] xs e = refl
 nothing-read (x ∷ out) xs e = absurd (omega (arith, e))
 
-pub ruleset pins = (held-pinned-closed, held-pinned-open, stack-pinned-closed, stack-pinned-open, current-total)
+pub ruleset pins =
+    (held-pinned-closed, held-pinned-open, stack-pinned-closed, stack-pinned-open, current-total)
 
 pub ruleset ends = (pinned-mapped, unpinned-mapped)
 

@@ -22,7 +22,10 @@ ordered-ends (l ∷ ls) o = (o.0, ordered-ends ls o.1.1)
 open-pieced : (t : Top) (d : FillOf) (closed : List (Layer ℕ)) → IsFill d → IsPieced (open_layer t d closed)
 open-pieced t d closed i = record { pieces = d.pieces; solid = i.solid; same = rw (contents-marked d.floor d.cells) (sym i.cells); few = i.few }
 
-pub shared : (tape : TapeOf) (closed : LayersOf) (d : FillOf) (top : Option Top) (pin : Option ℕ) (pinned : List ℕ) (seams : ℕ) → IsWhole tape → Holds tape.len closed d top pin pinned seams → IsFill d → AllByRecursion IsPieced closed.layers → AllByRecursion IsPieced closed.redo → IsShared (held_by tape closed d top pin pinned)
+pub shared : (tape : TapeOf) (closed : LayersOf) (d : FillOf) (top : Option Top) (pin : Option ℕ)
+    (pinned : List ℕ) (seams : ℕ) → IsWhole tape → Holds tape.len closed d top pin pinned seams →
+    IsFill d → AllByRecursion IsPieced closed.layers → AllByRecursion IsPieced closed.redo →
+    IsShared (held_by tape closed d top pin pinned)
 shared tape closed d None pin pinned seams whole h i pl pr = record {
   tape = refl;
   whole = whole;
@@ -41,13 +44,16 @@ shared tape closed d (Some t) pin pinned seams whole h i pl pr = record {
   low = holds-low tape closed d (Some t) pin pinned seams h i;
   order = (h.opened.end, ordered-ends closed.layers h.ordered);
   closed = h.ordered;
-  redo = rw h.opened.no_redo (let x = h.opened.floor in let y = i.floor in let z = h.opened.next in omega (arith, x, y, z));
+  redo = rw h.opened.no_redo (let x = h.opened.floor in let y = i.floor in let z = h.opened.next in
+      omega (arith, x, y, z));
   pin = h.pin_within;
   alone = λ w place lt f.
       let p = place-in (Some t) d closed.layers place w lt in
       let s = stale-in (Some t) d closed.layers place w p in
       let g : nat_le d.floor (get_or d.cells place 0) ≡ true = rw s at f in
-      rw (contents-marked d.floor d.cells) (alone-in tape closed d (Some t) pin pinned seams place (get_or d.cells place 0) w h i p refl (grind (arith, g)));
+      rw (contents-marked d.floor d.cells)
+      (alone-in tape closed d (Some t) pin pinned seams place (get_or d.cells place 0) w h i p
+      refl (grind (arith, g)));
   pieces = (open-pieced t d closed.layers i, pl);
   redo_pieces = pr;
 }

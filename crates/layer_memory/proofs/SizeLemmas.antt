@@ -32,7 +32,8 @@ open-base t true d closed e = rw e refl
 open-base t false d closed e = rw e refl
 
 -- the numbers of frames are those of addresses
-pub sizes-mapped : (f : ℕ → Sound) (s : Stack ℕ) (z : Sizes) → AreSizes s z → AreSizes (stack_map f s) z
+pub sizes-mapped : (f : ℕ → Sound) (s : Stack ℕ) (z : Sizes) → AreSizes s z →
+    AreSizes (stack_map f s) z
 sizes-mapped f s z a = record {
   list = rw (lengths-mapped f s.layers) a.list;
   cycle = rw (cycle-mapped f s.layers) a.cycle;

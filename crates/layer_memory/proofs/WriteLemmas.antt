@@ -26,14 +26,19 @@ use Rattle.layer_memory.proofs.FreshLemmas.{marked-written}
 trans : {A : Type 0} {x y z : A} → x ≡ y → y ≡ z → x ≡ z
 trans e f = rw e f
 
-written-new : {A : Type 0} (how : How) (place : ℕ) (a : A) (s : Stack A) → meets_fresh how place s ≡ false → newly_written how place a s ≡ written how place a s
+written-new : {A : Type 0} (how : How) (place : ℕ) (a : A) (s : Stack A) →
+    meets_fresh how place s ≡ false → newly_written how place a s ≡ written how place a s
 written-new how place a s m = rw m refl
 
-written-over : {A : Type 0} (how : How) (place : ℕ) (a : A) (s : Stack A) → meets_fresh how place s ≡ true → rewritten how place a s ≡ written how place a s
+written-over : {A : Type 0} (how : How) (place : ℕ) (a : A) (s : Stack A) →
+    meets_fresh how place s ≡ true → rewritten how place a s ≡ written how place a s
 written-over how place a s m = rw m refl
 
 -- a new cell
-pub pushed-seen : (h h' : Held) (p p' : PoolOf) (how : How) (place : ℕ) (x : Sound) → h'.stack ≡ newly_written how place h.tape.len h.stack → meets_fresh how place h.stack ≡ false → StackBelow h.tape.len h.stack → Pushed h.tape h'.tape p p' x → seen h' p' ≡ written how place x (seen h p)
+pub pushed-seen : (h h' : Held) (p p' : PoolOf) (how : How) (place : ℕ) (x : Sound) →
+    h'.stack ≡ newly_written how place h.tape.len h.stack → meets_fresh how place h.stack ≡ false →
+    StackBelow h.tape.len h.stack → Pushed h.tape h'.tape p p' x →
+    seen h' p' ≡ written how place x (seen h p)
 pushed-seen h h' p p' how place x e m b c =
     let f : ℕ → Sound = at h'.tape p' in
     let agree = stack-agrees f (at h.tape p) h.tape.len h.stack c.kept b in
@@ -45,10 +50,16 @@ pushed-seen h h' p p' how place x e m b c =
     (trans (ap (λ s. newly_written how place x s) agree)
     (written-new how place x (stack_map (at h.tape p) h.stack) stale))))
 
-pub push-keeps : (h h' : Held) (p p' : PoolOf) (x : Sound) → IsWhole h'.tape → Pushed h.tape h'.tape p p' x → Keeps h h' p p'
-push-keeps h h' p p' x whole c = record { owns = c.owned; whole = whole; others = c.others; reached = c.chunks; all = c.all }
+pub push-keeps : (h h' : Held) (p p' : PoolOf) (x : Sound) → IsWhole h'.tape →
+    Pushed h.tape h'.tape p p' x → Keeps h h' p p'
+push-keeps h h' p p' x whole c =
+    record { owns = c.owned; whole = whole; others = c.others; reached = c.chunks; all = c.all }
 
-pub pushes : (h h' : Held) (p p' : PoolOf) (how : How) (place : ℕ) (x : Sound) → h'.stack ≡ newly_written how place h.tape.len h.stack → h'.writing ≡ true → meets_fresh how place h.stack ≡ false → new_cell_fits (reach h p) how h.stack ≡ true → StackBelow h.tape.len h.stack → IsWhole h'.tape → Pushed h.tape h'.tape p p' x → Writes how place x h h' p p'
+pub pushes : (h h' : Held) (p p' : PoolOf) (how : How) (place : ℕ) (x : Sound) →
+    h'.stack ≡ newly_written how place h.tape.len h.stack → h'.writing ≡ true →
+    meets_fresh how place h.stack ≡ false → new_cell_fits (reach h p) how h.stack ≡ true →
+    StackBelow h.tape.len h.stack → IsWhole h'.tape → Pushed h.tape h'.tape p p' x →
+    Writes how place x h h' p p'
 pushes h h' p p' how place x e w m fit b whole c = record {
   fits = rw (fits-mapped (at h.tape p) (reach h p) how place h.stack, m, fit) refl;
   seen = pushed-seen h h' p p' how place x e m b c;
@@ -56,17 +67,27 @@ pushes h h' p p' how place x e w m fit b whole c = record {
   keeps = push-keeps h h' p p' x whole c;
 }
 
-pub refuses : (h h' : Held) (p p' : PoolOf) (how : How) (place : ℕ) → h' ≡ h → p' ≡ p → meets_fresh how place h.stack ≡ false → new_cell_fits (reach h p) how h.stack ≡ false → Refuses how place h h' p p'
+pub refuses : (h h' : Held) (p p' : PoolOf) (how : How) (place : ℕ) → h' ≡ h → p' ≡ p →
+    meets_fresh how place h.stack ≡ false → new_cell_fits (reach h p) how h.stack ≡ false →
+    Refuses how place h h' p p'
 refuses h h' p p' how place eh ep m fit = record {
   full = rw (fits-mapped (at h.tape p) (reach h p) how place h.stack, m, fit) refl;
   same = record { held = eh; pool = ep };
 }
 
 -- over a fresh cell
-pub rewrites : (h h' : Held) (p p' : PoolOf) (how : How) (place a : ℕ) (x : Sound) → h'.stack ≡ run_broken h.stack → h'.tape ≡ h.tape → h'.writing ≡ true → overwrites how ≡ true → meets_fresh how place h.stack ≡ true → StackBelow h.tape.len h.stack → Alone place a h.stack → ((b : ℕ) → b < h.tape.len → b ≢ a → at h'.tape p' b ≡ at h.tape p b) → at h'.tape p' a ≡ x → Keeps h h' p p' → Writes how place x h h' p p'
+pub rewrites : (h h' : Held) (p p' : PoolOf) (how : How) (place a : ℕ) (x : Sound) →
+    h'.stack ≡ run_broken h.stack → h'.tape ≡ h.tape → h'.writing ≡ true → overwrites how ≡ true →
+    meets_fresh how place h.stack ≡ true → StackBelow h.tape.len h.stack → Alone place a h.stack →
+    ((b : ℕ) → b < h.tape.len → b ≢ a → at h'.tape p' b ≡ at h.tape p b) → at h'.tape p' a ≡ x →
+    Keeps h h' p p' → Writes how place x h h' p p'
 rewrites h h' p p' how place a x e et w o m bl al off on k = record {
   fits = rw (fits-mapped (at h.tape p) (reach h p) how place h.stack, m) refl;
-  seen = let s = stack-rewritten (at h'.tape p') (at h.tape p) how h.tape.len place a x h.stack.layers h.stack refl o off on bl.layers bl.redo bl.pin al.layers al.redo al.pin in let fresh = trans (fresh-mapped (at h.tape p) how place h.stack) m in trans (ap (λ t. stack_map (at h'.tape p') t) e) (trans s (written-over how place x (stack_map (at h.tape p) h.stack) fresh));
+  seen = let s = stack-rewritten (at h'.tape p') (at h.tape p) how h.tape.len place a x
+      h.stack.layers h.stack refl o off on bl.layers bl.redo bl.pin al.layers al.redo al.pin in
+      let fresh = trans (fresh-mapped (at h.tape p) how place h.stack) m in
+      trans (ap (λ t. stack_map (at h'.tape p') t) e)
+      (trans s (written-over how place x (stack_map (at h.tape p) h.stack) fresh));
   writing = w;
   keeps = k;
 }
@@ -80,10 +101,16 @@ goes-more m n end [] le g = omega (arith, le, g)
 goes-more m n end (l ∷ ls) le g = (g.0, (g.1.0, goes-more m n l.end ls le g.1.1))
 
 -- what is kept where a new cell was written
-pub held-pushed : (tape : ℕ) (closed : LayersOf) (d : FillOf) (t : Top) (pin : Option ℕ) (pinned : List ℕ) (how : How) (place seams seams' : ℕ) → Holds tape closed d (Some t) pin pinned seams → total_seams closed.layers + (d.seams + more_seams d.run) ≤ max_seams → seams' ≡ seams + more_seams d.run → Holds (tape + 1) closed (fill_written how place d) (Some t) pin pinned seams'
+pub held-pushed : (tape : ℕ) (closed : LayersOf) (d : FillOf) (t : Top) (pin : Option ℕ)
+    (pinned : List ℕ) (how : How) (place seams seams' : ℕ) →
+    Holds tape closed d (Some t) pin pinned seams →
+    total_seams closed.layers + (d.seams + more_seams d.run) ≤ max_seams →
+    seams' ≡ seams + more_seams d.run →
+    Holds (tape + 1) closed (fill_written how place d) (Some t) pin pinned seams'
 held-pushed tape closed d t pin pinned how place seams seams' h few es = record {
   ordered = h.ordered;
-  goes_on = goes-more tape (tape + 1) (current_end closed.layers) closed.redo (omega arith) h.goes_on;
+  goes_on = goes-more tape (tape + 1) (current_end closed.layers) closed.redo (omega arith)
+      h.goes_on;
   pin_within = pin-more tape (tape + 1) (pin_of pin pinned) (omega arith) h.pin_within;
   opened = record {
     next = let n = h.opened.next in omega (arith, n);
@@ -94,21 +121,43 @@ held-pushed tape closed d t pin pinned how place seams seams' h few es = record 
     count = h.opened.count;
     few = few;
   };
-  total = let s = sum_by-cons seams_of (open_layer t (fill_written how place d) closed.layers) closed.layers in let r = sum_by-cons seams_of (open_layer t d closed.layers) closed.layers in omega (arith, s, r, es, h.total);
+  total = let s = sum_by-cons seams_of (open_layer t (fill_written how place d) closed.layers)
+      closed.layers in let r = sum_by-cons seams_of (open_layer t d closed.layers) closed.layers in
+      omega (arith, s, r, es, h.total);
 }
 
 -- the stack after it
-pub stack-pushed : (tape tape' : TapeOf) (closed : LayersOf) (d d' : FillOf) (top : Option Top) (pin : Option ℕ) (pinned : List ℕ) (how : How) (place : ℕ) → IsTrue (is_some top) → d.floor ≤ d.next → MayBeOpen tape.len closed d top pin pinned → tape'.len ≡ tape.len + 1 → d' ≡ fill_written how place d → (held_by tape' closed d' top pin pinned).stack ≡ newly_written how place tape.len (held_by tape closed d top pin pinned).stack
+pub stack-pushed : (tape tape' : TapeOf) (closed : LayersOf) (d d' : FillOf) (top : Option Top)
+    (pin : Option ℕ) (pinned : List ℕ) (how : How) (place : ℕ) → IsTrue (is_some top) →
+    d.floor ≤ d.next → MayBeOpen tape.len closed d top pin pinned → tape'.len ≡ tape.len + 1 →
+    d' ≡ fill_written how place d → (held_by tape' closed d' top pin pinned).stack ≡ newly_written
+    how place tape.len (held_by tape closed d top pin pinned).stack
 stack-pushed tape tape' closed d d' None pin pinned how place w le m n e = grind (arith, w)
-stack-pushed tape tape' closed d d' (Some t) pin pinned how place w le m n e = rw (n, sym m.next, e, marked-written d.floor how place d.next d.cells le) refl
+stack-pushed tape tape' closed d d' (Some t) pin pinned how place w le m n e =
+    rw (n, sym m.next, e, marked-written d.floor how place d.next d.cells le) refl
 
-pub held-pushed-in : (tape : ℕ) (closed : LayersOf) (d d' : FillOf) (top : Option Top) (pin : Option ℕ) (pinned : List ℕ) (how : How) (place seams seams' n : ℕ) → IsTrue (is_some top) → Holds tape closed d top pin pinned seams → total_seams closed.layers + (d.seams + more_seams d.run) ≤ max_seams → seams' ≡ seams + more_seams d.run → n ≡ tape + 1 → d' ≡ fill_written how place d → Holds n closed d' top pin pinned seams'
-held-pushed-in tape closed d d' None pin pinned how place seams seams' n w h few es en ed = grind (arith, w)
-held-pushed-in tape closed d d' (Some t) pin pinned how place seams seams' n w h few es en ed = rw (en, ed) (held-pushed tape closed d t pin pinned how place seams seams' h few es)
+pub held-pushed-in : (tape : ℕ) (closed : LayersOf) (d d' : FillOf) (top : Option Top)
+    (pin : Option ℕ) (pinned : List ℕ) (how : How) (place seams seams' n : ℕ) →
+    IsTrue (is_some top) → Holds tape closed d top pin pinned seams →
+    total_seams closed.layers + (d.seams + more_seams d.run) ≤ max_seams →
+    seams' ≡ seams + more_seams d.run → n ≡ tape + 1 → d' ≡ fill_written how place d →
+    Holds n closed d' top pin pinned seams'
+held-pushed-in tape closed d d' None pin pinned how place seams seams' n w h few es en ed =
+    grind (arith, w)
+held-pushed-in tape closed d d' (Some t) pin pinned how place seams seams' n w h few es en ed =
+    rw (en, ed) (held-pushed tape closed d t pin pinned how place seams seams' h few es)
 
 -- what is kept where a frame is set
-pub set-keeps : (h h' : Held) (p p' : PoolOf) (a : ℕ) (x : Sound) → IsWhole h.tape → h'.tape ≡ h.tape → IsSet h.tape h.tape p p' a x → Keeps h h' p p'
-set-keeps h h' p p' a x whole e s = let f : length p'.free ≡ length p.free = ap length s.free in rw e (record { owns = s.owned; whole = whole; others = s.others; reached = omega (arith, f); all = s.all })
+pub set-keeps : (h h' : Held) (p p' : PoolOf) (a : ℕ) (x : Sound) → IsWhole h.tape →
+    h'.tape ≡ h.tape → IsSet h.tape h.tape p p' a x → Keeps h h' p p'
+set-keeps h h' p p' a x whole e s = let f : length p'.free ≡ length p.free = ap length s.free in
+    rw e (record {
+      owns = s.owned;
+      whole = whole;
+      others = s.others;
+      reached = omega (arith, f);
+      all = s.all;
+    })
 
 pub ruleset writes = (held-pushed-in, stack-pushed)
 

@@ -1,6 +1,6 @@
 -- What the calls of layers answer and leave.
--- A refusal changes nothing. Else the stack of frames is that of the rules, the tape stays the layers' own, what they reach
--- stays as it was, and so do all other tapes of the pool.
+-- A refusal changes nothing. Else the stack of frames is that of the rules, the tape stays the
+-- layers' own, what they reach stays as it was, and so do all other tapes of the pool.
 -- "Opening", "Writing" and "The run" in docs/rules.md.
 use Rattle.std.specs.Prelude.{◌≡◌, ◌≤◌, ◌<◌, ℕ, ◌+◌, ⊤, Bool, true, false, List, length}
 use Rattle.std.specs.List.{range_with_len}
@@ -18,7 +18,8 @@ use Rattle.loop_tape.specs.Pools.{PoolOf}
 use Rattle.loop_tape.specs.Tapes.{Owns, OthersStay, IsWhole}
 use Rattle.layer_memory.specs.Seen.{Held, seen, reach}
 
--- the tape is still the layers' own, the other tapes of the pool stay as they were, and so does what is in reach
+-- the tape is still the layers' own, the other tapes of the pool stay as they were, and so does
+-- what is in reach
 pub record Keeps (h h' : Held) (p p' : PoolOf) : Type 0 where
   pub owns : Owns h'.tape p'
   pub whole : IsWhole h'.tape

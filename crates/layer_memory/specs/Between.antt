@@ -1,5 +1,6 @@
--- What may happen to a stack between two calls: openings, writes, extensions, closings, removals, undo and redo, and the end
--- of a run. Between an opening and its closing a list may also be pinned and released.
+-- What may happen to a stack between two calls: openings, writes, extensions, closings, removals,
+-- undo and redo, and the end of a run. Between an opening and its closing a list may also be pinned
+-- and released.
 -- "Writing", "History: undo and redo" and "The stack" in docs/rules.md.
 use Rattle.std.specs.Prelude.{ℕ, Bool, Option}
 use Rattle.sl_base.specs.Sounds.{Sound}
@@ -14,7 +15,8 @@ use Rattle.looper_rules.specs.Saves.{pinned, unpinned}
 -- the open layer of the first stack was written and extended on the way to the second
 pub data AreWrites (s : Stack Sound) : Stack Sound → Type 0 where
   no_write : AreWrites s s
-  wrote : (how : How) → (place : ℕ) → (x : Sound) → (t : Stack Sound) → AreWrites s t → AreWrites s (written how place x t)
+  wrote : (how : How) → (place : ℕ) → (x : Sound) → (t : Stack Sound) → AreWrites s t →
+      AreWrites s (written how place x t)
   went_on : (t : Stack Sound) → AreWrites s t → AreWrites s (extended t)
   broke : (t : Stack Sound) → AreWrites s t → AreWrites s (run_broken t)
   held : (t : Stack Sound) → AreWrites s t → AreWrites s (pinned t)
@@ -24,7 +26,8 @@ pub data AreWrites (s : Stack Sound) : Stack Sound → Type 0 where
 pub data AreChanges (s : Stack Sound) : Stack Sound → Type 0 where
   no_change : AreChanges s s
   opens : (empty : Bool) → (t : Stack Sound) → AreChanges s t → AreChanges s (opened empty t)
-  writes : (how : How) → (place : ℕ) → (x : Sound) → (t : Stack Sound) → AreChanges s t → AreChanges s (written how place x t)
+  writes : (how : How) → (place : ℕ) → (x : Sound) → (t : Stack Sound) → AreChanges s t →
+      AreChanges s (written how place x t)
   extends : (t : Stack Sound) → AreChanges s t → AreChanges s (extended t)
   breaks : (t : Stack Sound) → AreChanges s t → AreChanges s (run_broken t)
   finishes : (cut : Option ℕ) → (t : Stack Sound) → AreChanges s t → AreChanges s (finished cut t)

@@ -1,5 +1,6 @@
--- What layers over a tape are seen as, of their inside: the closed layers, the layer that is being written, and the pin.
--- The open layer's base and its seams are the list and the seams of the newest closed layer, where it is opened over that.
+-- What layers over a tape are seen as, of their inside: the closed layers, the layer that is being
+-- written, and the pin. The open layer's base and its seams are the list and the seams of the
+-- newest closed layer, where it is opened over that.
 -- "Layers" in docs/rules.md.
 use Rattle.std.specs.Prelude.{◌≡◌, ◌≤◌, ◌<◌, ℕ, ◌+◌, ⊤, Bool, true, false, List, [], ◌∷◌, length, Option, Some, None, is_some}
 use Rattle.sl_base.specs.Limits.{max_layers, max_seams}
@@ -72,7 +73,8 @@ abbrev pub held_of : Inside → Held
 held_of s = held_by s.tape s.closed s.fill s.top s.pin (addresses s.pinned.items)
 
 -- what holds of an open layer
-pub record IsOpen (tape : ℕ) (closed : LayersOf) (f : FillOf) (t : Top) (pin : Option ℕ) (pinned : List ℕ) : Type 0 where
+pub record IsOpen (tape : ℕ) (closed : LayersOf) (f : FillOf) (t : Top) (pin : Option ℕ)
+    (pinned : List ℕ) : Type 0 where
   pub next : f.next ≡ tape
   pub no_redo : closed.redo ≡ []
   pub end : current_end closed.layers ≤ t.end
@@ -87,7 +89,8 @@ MayBeOpen tape closed f None pin pinned = ⊤
 MayBeOpen tape closed f (Some t) pin pinned = IsOpen tape closed f t pin pinned
 
 -- what always holds of layers, of their parts
-pub record Holds (tape : ℕ) (closed : LayersOf) (f : FillOf) (top : Option Top) (pin : Option ℕ) (pinned : List ℕ) (seams : ℕ) : Type 0 where
+pub record Holds (tape : ℕ) (closed : LayersOf) (f : FillOf) (top : Option Top) (pin : Option ℕ)
+    (pinned : List ℕ) (seams : ℕ) : Type 0 where
   pub ordered : Ordered closed.layers
   pub goes_on : GoesOn tape (current_end closed.layers) closed.redo
   pub pin_within : PinWithin tape (pin_of pin pinned)
@@ -96,4 +99,5 @@ pub record Holds (tape : ℕ) (closed : LayersOf) (f : FillOf) (top : Option Top
 
 -- what always holds of layers, of their inside
 abbrev pub IsHeld : Inside → Type 0
-IsHeld s = Holds s.tape.len s.closed s.fill s.top s.pin (addresses s.pinned.items) s.seams × (s.pinned.room ≡ max_seams)
+IsHeld s = Holds s.tape.len s.closed s.fill s.top s.pin (addresses s.pinned.items) s.seams
+    × (s.pinned.room ≡ max_seams)

@@ -1,6 +1,7 @@
--- Layers that share a tape hold addresses, each below the tape length. The ends of layers and redo layers never fall from
--- older to newer, and a closed layer's addresses are below its end. The pinned list's addresses are below the pin.
--- A fresh cell of the open layer has an address that no other cell of any layer, redo layer, base or pinned list has.
+-- Layers that share a tape hold addresses, each below the tape length. The ends of layers and redo
+-- layers never fall from older to newer, and a closed layer's addresses are below its end. The
+-- pinned list's addresses are below the pin. A fresh cell of the open layer has an address that no
+-- other cell of any layer, redo layer, base or pinned list has.
 -- "Layers" and "The stack" in docs/rules.md.
 use Rattle.std.specs.Prelude.{◌≡◌, ◌≢◌, ◌≤◌, ℕ, ⊤, zero, suc, List, [], ◌∷◌, Option, Some, None}
 use Rattle.std.specs.List.{AllByRecursion}
@@ -29,7 +30,8 @@ pub record IsLow (l : Layer ℕ) : Type 0 where
   pub no_base : l.base ≡ []
   pub not_fresh : l.cells ≡ unmarked l.cells
 
--- closed layers, newest first: each is below its end, and no end is below that of the layer under it
+-- closed layers, newest first: each is below its end, and no end is below that of the layer under
+-- it
 abbrev pub Ordered : List (Layer ℕ) → Type 0
 Ordered [] = ⊤
 Ordered (l ∷ ls) = (current_end ls ≤ l.end) × (IsLow l × Ordered ls)
@@ -59,13 +61,15 @@ abbrev pub PinWithout : ℕ → Option (Pin ℕ) → Type 0
 PinWithout a None = ⊤
 PinWithout a (Some p) = Without a p.list
 
--- an address stands at this place of the current layer, in a fresh cell, and nowhere else in these layers
+-- an address stands at this place of the current layer, in a fresh cell, and nowhere else in these
+-- layers
 abbrev pub AloneIn : ℕ → ℕ → List (Layer ℕ) → Type 0
 AloneIn place a [] = ⊥
-AloneIn place a (l ∷ ls) = (AtOnce place a l.cells × Without a l.base) × AllByRecursion (LayerWithout a) ls
+AloneIn place a (l ∷ ls) = (AtOnce place a l.cells × Without a l.base)
+    × AllByRecursion (LayerWithout a) ls
 
--- the fresh cell at this place of the open layer has an address that no other cell of any layer, redo layer, base or pinned
--- list has
+-- the fresh cell at this place of the open layer has an address that no other cell of any layer,
+-- redo layer, base or pinned list has
 pub record Alone (place a : ℕ) (s : Stack ℕ) : Type 0 where
   pub layers : AloneIn place a s.layers
   pub redo : AllByRecursion (LayerWithout a) s.redo

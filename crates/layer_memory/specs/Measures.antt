@@ -5,8 +5,8 @@ use Rattle.looper_rules.specs.Layers.{total_seams, current_length, current_cycle
 use Rattle.looper_rules.specs.Stack.{Stack}
 use Rattle.layer_memory.specs.declared.sizes.Sizes.{Sizes}
 
--- these are the lengths of the current list and of the open layer's base, the cycle, the numbers of layers and redo layers,
--- all seams, and whether a run goes on
+-- these are the lengths of the current list and of the open layer's base, the cycle, the numbers of
+-- layers and redo layers, all seams, and whether a run goes on
 pub record AreSizes {A : Type 0} (s : Stack A) (z : Sizes) : Type 0 where
   pub list : z.length ≡ current_length s.layers
   pub cycle : z.cycle ≡ current_cycle s.layers

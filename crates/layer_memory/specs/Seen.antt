@@ -1,5 +1,5 @@
--- What layers over a tape are seen as: a stack whose cells hold addresses, and the tape. With the pool's frames at these
--- addresses it is the stack of frames of which the rules speak.
+-- What layers over a tape are seen as: a stack whose cells hold addresses, and the tape. With the
+-- pool's frames at these addresses it is the stack of frames of which the rules speak.
 -- "The stack" and "Room" in docs/rules.md.
 use Rattle.std.specs.Prelude.{ℕ, ◌+◌, Bool, length}
 use Rattle.sl_base.specs.Sounds.{Sound}

@@ -19,7 +19,8 @@ written_span (x ∷ xs) place s = written_span xs (place + 1) (written Forward p
 -- each of these writes fits
 abbrev pub AllFit : {A : Type 0} → ℕ → List A → ℕ → Stack A → Type 0
 AllFit reach [] place s = ⊤
-AllFit reach (x ∷ xs) place s = (write_fits reach Forward place s ≡ true) × AllFit reach xs (place + 1) (written Forward place x s)
+AllFit reach (x ∷ xs) place s = (write_fits reach Forward place s ≡ true)
+    × AllFit reach xs (place + 1) (written Forward place x s)
 
 -- what these writes leave
 pub record WritesSpan (xs : List Sound) (place : ℕ) (h h' : Held) (p p' : PoolOf) : Type 0 where
@@ -31,11 +32,13 @@ pub record WritesSpan (xs : List Sound) (place : ℕ) (h h' : Held) (p p' : Pool
 -- so many new cells in a row, which hold addresses in a row
 abbrev pub newly_written_span : ℕ → ℕ → ℕ → Stack ℕ → Stack ℕ
 newly_written_span zero place a s = s
-newly_written_span (suc k) place a s = newly_written_span k (place + 1) (a + 1) (newly_written Forward place a s)
+newly_written_span (suc k) place a s =
+    newly_written_span k (place + 1) (a + 1) (newly_written Forward place a s)
 
 -- so many cells in a row are fresh, or none of them is
 abbrev pub AreMarked : {A : Type 0} → Bool → ℕ → ℕ → List (Layer A) → Type 0
-AreMarked b n place layers = (k : ℕ) → k < n → is_fresh (slice_get (current_cells layers) (place + k)) ≡ b
+AreMarked b n place layers = (k : ℕ) → k < n →
+    is_fresh (slice_get (current_cells layers) (place + k)) ≡ b
 
 -- so many cells in a row hold addresses in a row, and each stands alone
 abbrev pub AreAlone : ℕ → ℕ → ℕ → Stack ℕ → Type 0

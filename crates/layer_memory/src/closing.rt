@@ -90,8 +90,8 @@ impl Layers {
         true
     }
 
-    /// Puts the base behind the open layer's list. A layer has to be open whose base isn't empty. False where that doesn't
-    /// fit, and then nothing changes.
+    /// Puts the base behind the open layer's list. A layer has to be open whose base isn't empty.
+    /// False where that doesn't fit, and then nothing changes.
     #[tactic(auto, using(crate::proofs::ExtendingLemmas::ends))]
     pub fn extend(&mut self) -> bool
         requires writing { IsTrue self.old.writing }

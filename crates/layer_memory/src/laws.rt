@@ -26,11 +26,14 @@ pub fn undo_then_redo_changes_nothing(layers: &mut Layers)
 /// An opening and any writes, then the closing and an undo: the list is that from before.
 #[tactic(auto, using(crate::proofs::LawLemmas::openings))]
 pub fn undo_gives_back_the_list_before_an_opening()
-    ensures { (s t : Stack Sound) (empty : Bool) (cut : Option ℕ) → AreWrites (opened empty s) t → current_list (undone (finished cut t)).layers ≡ current_list s.layers }
+    ensures { (s t : Stack Sound) (empty : Bool) (cut : Option ℕ) → AreWrites (opened empty s) t →
+        current_list (undone (finished cut t)).layers ≡ current_list s.layers }
 {}
 
-/// What was pinned is what is saved, whatever is opened, written, closed, undone and redone in between.
+/// What was pinned is what is saved, whatever is opened, written, closed, undone and redone in
+/// between.
 #[tactic(auto, using(crate::proofs::LawLemmas::holds))]
 pub fn what_was_pinned_is_saved()
-    ensures { (s t : Stack Sound) → AreChanges (pinned s) t → pinned_list t.pin ≡ current_list s.layers }
+    ensures { (s t : Stack Sound) → AreChanges (pinned s) t →
+        pinned_list t.pin ≡ current_list s.layers }
 {}

@@ -22,7 +22,8 @@ use std::alloc::Global;
 use std::marker::Model;
 use undo_stack::LayerStack;
 
-/// What an open layer has beside its list: whether it was opened over another, its cycle, and the tape length of its opening.
+/// What an open layer has beside its list: whether it was opened over another, its cycle, and the
+/// tape length of its opening.
 #[derive(Clone, Copy)]
 pub(crate) struct Top {
     pub(crate) over: bool,
@@ -30,7 +31,8 @@ pub(crate) struct Top {
     pub(crate) end: u32,
 }
 
-/// The layers of one loop, its redo layers and its pin, on a tape. It owns the tape's chunks in the pool.
+/// The layers of one loop, its redo layers and its pin, on a tape. It owns the tape's chunks in the
+/// pool.
 #[derive(Drop)]
 pub struct Layers {
     pub(crate) tape: Tape,
@@ -58,7 +60,13 @@ impl Layers {
     /// No layers, with room for a tape of so many chunks, 32768 at most.
     pub fn new(alloc: Global, chunks: u32) -> Result<Layers, Memory>
         requires { chunks ≤ max_chunks }
-        ensures { IfOk result (λ l. l ≡ record { stack = empty_stack; writing = false; tape = record { chunks = []; len = 0; room = chunks } }) }
+        ensures { IfOk result
+            (λ l. l ≡ record {
+              stack = empty_stack;
+              writing = false;
+              tape =
+                  record { chunks = []; len = 0; room = chunks };
+            }) }
     {
         let tape = Tape::new(alloc, chunks)?;
         let closed = LayerStack::new(alloc)?;
@@ -86,7 +94,8 @@ impl Layers {
         self.fill.check();
     }
 
-    /// What layers that share a tape always keep: it is stated for whoever calls this, which does nothing.
+    /// What layers that share a tape always keep: it is stated for whoever calls this, which does
+    /// nothing.
     pub fn shared(&self)
         ensures { IsShared self.now }
     {

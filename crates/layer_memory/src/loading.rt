@@ -20,7 +20,8 @@ use sl_base::Frame;
 /// Puts frames behind those on a tape, for which there are chunks.
 fn push_all(tape: &mut Tape, pool: &mut Pool, frames: &[Frame])
     requires owns { Owns tape.old pool.old }
-    requires room { chunks_of (tape.old.len + length frames.now) ≤ length tape.old.chunks + length pool.old.free }
+    requires room { chunks_of (tape.old.len + length frames.now) ≤ length tape.old.chunks
+        + length pool.old.free }
     ensures { Appended tape.old tape.new pool.old pool.new frames.now }
 {
     for i in 0..frames.len() {
@@ -40,8 +41,10 @@ impl Layers {
         requires seams { total_seams self.old.stack.layers + 2 ≤ max_seams }
         requires some { 1 ≤ length frames.now }
         requires short { length frames.now ≤ max_list_frames }
-        requires room { chunks_of (self.old.stack.tape + length frames.now) ≤ reach self.old pool.old }
-        ensures stack { self.new.stack ≡ loaded (range_with_len self.old.stack.tape (length frames.now)) cycle self.old.stack }
+        requires room { chunks_of (self.old.stack.tape + length frames.now) ≤ reach self.old
+            pool.old }
+        ensures stack { self.new.stack ≡ loaded
+            (range_with_len self.old.stack.tape (length frames.now)) cycle self.old.stack }
         ensures writing { self.new.writing ≡ false }
         ensures tape { Appended self.old.tape self.new.tape pool.old pool.new frames.now }
         ensures whole { IsWhole self.new.tape }
@@ -58,8 +61,9 @@ impl Layers {
         self.seams += 2;
     }
 
-    /// Adds a layer of this list, of 1 to 16777216 frames, with 2 seams and this cycle. No layer may be open, there may be no
-    /// redo layers and no pin, the tape ends where the last layer does, and there are chunks for all frames.
+    /// Adds a layer of this list, of 1 to 16777216 frames, with 2 seams and this cycle. No layer
+    /// may be open, there may be no redo layers and no pin, the tape ends where the last layer
+    /// does, and there are chunks for all frames.
     #[tactic(auto, using(crate::proofs::LoadLemmas::loads))]
     pub fn load(&mut self, pool: &mut Pool, frames: &[Frame], cycle: u32)
         requires closed { IsFalse self.old.writing }
@@ -73,7 +77,8 @@ impl Layers {
         requires short { length frames.now ≤ max_list_frames }
         requires cycle { 1 ≤ cycle }
         requires cycle_within { cycle ≤ length frames.now }
-        requires room { chunks_of (self.old.stack.tape + length frames.now) ≤ reach self.old pool.old }
+        requires room { chunks_of (self.old.stack.tape + length frames.now) ≤ reach self.old
+            pool.old }
         ensures { Loads frames.now cycle self.old self.new pool.old pool.new }
     {
         self.check();

@@ -8,7 +8,8 @@ ghost use Rattle.layer_memory.specs.Seen.{seen};
 use crate::layers::Layers;
 
 impl Layers {
-    /// Moves the current layer to the redo layers. No layer may be open. False where there is none, and then nothing changes.
+    /// Moves the current layer to the redo layers. No layer may be open. False where there is none,
+    /// and then nothing changes.
     #[tactic(auto, using(crate::proofs::ClosingLemmas::moves))]
     pub fn undo(&mut self) -> bool
         requires closed { IsFalse self.old.writing }
@@ -22,7 +23,8 @@ impl Layers {
         self.closed.undo()
     }
 
-    /// Moves the next redo layer back. No layer may be open. False where there is none, and then nothing changes.
+    /// Moves the next redo layer back. No layer may be open. False where there is none, and then
+    /// nothing changes.
     #[tactic(auto, using(crate::proofs::ClosingLemmas::moves))]
     pub fn redo(&mut self) -> bool
         requires closed { IsFalse self.old.writing }

@@ -100,8 +100,9 @@ impl Layers {
         self.begin_over(pool);
     }
 
-    /// Opens a layer, an empty one or a copy of the current one. No layer may be open, and for a copy there has to be one.
-    /// It is refused where there are too many layers or seams, or where the tape has no room, and then nothing changes.
+    /// Opens a layer, an empty one or a copy of the current one. No layer may be open, and for a
+    /// copy there has to be one. It is refused where there are too many layers or seams, or where
+    /// the tape has no room, and then nothing changes.
     #[tactic(auto, using(crate::proofs::OpeningLemmas::starts))]
     pub fn start_layer(&mut self, pool: &mut Pool, empty: bool) -> Started
         requires closed { IsFalse self.old.writing }

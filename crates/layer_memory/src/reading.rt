@@ -43,7 +43,8 @@ impl Layers {
     pub fn read_span(&self, pool: &Pool, place: u32, out: &mut [Frame])
         requires owns { Owns self.now.tape pool.now }
         requires place { place + length out.old ≤ current_length self.now.stack.layers }
-        ensures { out.new ≡ take (length out.old) (drop place (current_list (seen self.now pool.now).layers)) }
+        ensures { out.new ≡ take (length out.old)
+            (drop place (current_list (seen self.now pool.now).layers)) }
     {
         self.check();
         let _length = (self.closed.len(), self.fill.len());
@@ -67,7 +68,8 @@ impl Layers {
         }
     }
 
-    /// Searches a place of the current list, so that reads from there on search nothing. Past the end it does nothing.
+    /// Searches a place of the current list, so that reads from there on search nothing. Past the
+    /// end it does nothing.
     pub fn seek(&mut self, place: u32)
         ensures { self.new ≡ self.old }
     {
@@ -112,7 +114,8 @@ impl Layers {
         requires owns { Owns self.now.tape pool.now }
         requires some { 0 < length out.old }
         requires place { place + length out.old ≤ length (pinned_list self.now.stack.pin) }
-        ensures { out.new ≡ take (length out.old) (drop place (pinned_list (seen self.now pool.now).pin)) }
+        ensures { out.new ≡ take (length out.old)
+            (drop place (pinned_list (seen self.now pool.now).pin)) }
     {
         self.check();
         let _length = self.pinned.len();
@@ -131,7 +134,8 @@ impl Layers {
     pub fn saved_span(&self, pool: &Pool, place: u32, out: &mut [Frame])
         requires owns { Owns self.now.tape pool.now }
         requires place { place + length out.old ≤ length (pinned_list self.now.stack.pin) }
-        ensures { out.new ≡ take (length out.old) (drop place (pinned_list (seen self.now pool.now).pin)) }
+        ensures { out.new ≡ take (length out.old)
+            (drop place (pinned_list (seen self.now pool.now).pin)) }
     {
         if out.is_empty() {
             return;
@@ -149,7 +153,8 @@ impl Layers {
         }
     }
 
-    /// Searches a place of the pinned list, so that reads from there on search nothing. Past the end it does nothing.
+    /// Searches a place of the pinned list, so that reads from there on search nothing. Past the
+    /// end it does nothing.
     pub fn seek_saved(&mut self, place: u32)
         ensures { self.new ≡ self.old }
     {

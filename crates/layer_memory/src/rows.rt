@@ -34,7 +34,8 @@ impl Layers {
         self.fill.old_cells(place, count)
     }
 
-    /// The address of the cell at a place, and how many cells from there on, at most `count`, are fresh and hold addresses in a row.
+    /// The address of the cell at a place, and how many cells from there on, at most `count`, are
+    /// fresh and hold addresses in a row.
     #[tactic(auto, using(crate::proofs::SpanWriteLemmas::marks))]
     fn fresh_ahead(&self, place: u32, count: u32) -> (u32, u32)
         requires writing { IsTrue self.now.writing }
@@ -69,7 +70,8 @@ impl Layers {
         self.fill.break_run();
     }
 
-    /// Writes new cells in a row, within the last chunk of the tape, as many as one piece takes in a run that goes on. How many.
+    /// Writes new cells in a row, within the last chunk of the tape, as many as one piece takes in
+    /// a run that goes on. How many.
     #[tactic(auto, using(crate::proofs::SpanWriteLemmas::rows))]
     fn push_row(&mut self, pool: &mut Pool, place: u32, frames: &[Frame]) -> u32
         requires writing { IsTrue self.old.writing }
@@ -81,9 +83,11 @@ impl Layers {
         ensures within { result ≤ length frames.now }
         ensures none { result ≡ 0 → (self.new ≡ self.old) × (pool.new ≡ pool.old) }
         ensures runs { 1 ≤ result → IsTrue (is_some self.old.stack.run) }
-        ensures stack { 1 ≤ result → self.new.stack ≡ newly_written_span result place self.old.tape.len self.old.stack }
+        ensures stack { 1 ≤ result →
+            self.new.stack ≡ newly_written_span result place self.old.tape.len self.old.stack }
         ensures writing { self.new.writing ≡ true }
-        ensures pushed { 1 ≤ result → PushedAll self.old.tape self.new.tape pool.old pool.new (take result frames.now) }
+        ensures pushed { 1 ≤ result →
+            PushedAll self.old.tape self.new.tape pool.old pool.new (take result frames.now) }
         ensures whole { IsWhole self.new.tape }
     {
         self.tape.check();
@@ -97,7 +101,8 @@ impl Layers {
         count
     }
 
-    /// Writes over fresh cells in a row, from the first of these frames on, as many as lie in one chunk in order. How many.
+    /// Writes over fresh cells in a row, from the first of these frames on, as many as lie in one
+    /// chunk in order. How many.
     #[tactic(auto, using(crate::proofs::SpanWriteLemmas::none, crate::proofs::SpanWriteLemmas::answers))]
     fn write_fresh(&mut self, pool: &mut Pool, place: u32, frames: &[Frame]) -> usize
         requires writing { IsTrue self.old.writing }
@@ -105,7 +110,8 @@ impl Layers {
         requires some { 1 ≤ length frames.now }
         requires place { place + length frames.now ≤ current_length self.old.stack.layers }
         ensures within { result ≤ length frames.now }
-        ensures writes { WritesSpan (take result frames.now) place self.old self.new pool.old pool.new }
+        ensures writes { WritesSpan (take result frames.now) place self.old self.new pool.old
+            pool.new }
     {
         self.check();
         let (address, fresh) = self.fresh_ahead(place, most_of(frames));
@@ -117,8 +123,8 @@ impl Layers {
         count
     }
 
-    /// Writes new cells in a row over others, from the first of these frames on, as many as one piece and one chunk take in a run
-    /// that goes on. How many.
+    /// Writes new cells in a row over others, from the first of these frames on, as many as one
+    /// piece and one chunk take in a run that goes on. How many.
     #[tactic(auto, using(crate::proofs::SpanWriteLemmas::none, crate::proofs::SpanWriteLemmas::answers))]
     fn write_old(&mut self, pool: &mut Pool, place: u32, frames: &[Frame]) -> usize
         requires writing { IsTrue self.old.writing }
@@ -127,7 +133,8 @@ impl Layers {
         requires place { place + length frames.now ≤ current_length self.old.stack.layers }
         requires follows { Follows self.old.stack.run Forward place }
         ensures within { result ≤ length frames.now }
-        ensures writes { WritesSpan (take result frames.now) place self.old self.new pool.old pool.new }
+        ensures writes { WritesSpan (take result frames.now) place self.old self.new pool.old
+            pool.new }
     {
         self.check();
         let old = self.old_ahead(place, most_of(frames));
@@ -138,9 +145,9 @@ impl Layers {
         self.push_row(pool, place, &frames[..most]) as usize
     }
 
-    /// Writes frames in a row, each over the cell at its place, from the first of them on: as many as can be written at once, and
-    /// none where the first is to be written alone. How many. A layer has to be open, and where a run goes on they have to go on
-    /// with it.
+    /// Writes frames in a row, each over the cell at its place, from the first of them on: as many
+    /// as can be written at once, and none where the first is to be written alone. How many. A
+    /// layer has to be open, and where a run goes on they have to go on with it.
     pub fn write_span(&mut self, pool: &mut Pool, place: u32, frames: &[Frame]) -> usize
         requires writing { IsTrue self.old.writing }
         requires owns { Owns self.old.tape pool.old }
@@ -148,7 +155,8 @@ impl Layers {
         requires place { place + length frames.now ≤ current_length self.old.stack.layers }
         requires follows { Follows self.old.stack.run Forward place }
         ensures within { result ≤ length frames.now }
-        ensures writes { WritesSpan (take result frames.now) place self.old self.new pool.old pool.new }
+        ensures writes { WritesSpan (take result frames.now) place self.old self.new pool.old
+            pool.new }
     {
         if self.fill.is_fresh(place) {
             self.write_fresh(pool, place, frames)
@@ -171,8 +179,6 @@ impl Layers {
         if !self.fill.runs() {
             return 0;
         }
-        self.fill
-            .old_cells(place, count)
-            .min(self.tape.rest())
+        self.fill.old_cells(place, count).min(self.tape.rest())
     }
 }

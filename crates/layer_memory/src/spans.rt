@@ -25,7 +25,8 @@ fn read_piece(tape: &Tape, pool: &Pool, piece: Piece, out: &mut [Frame])
     }
 }
 
-/// Copies the frames at the addresses of pieces from a place on, as many as `out` has. The hint says where the search begins.
+/// Copies the frames at the addresses of pieces from a place on, as many as `out` has. The hint
+/// says where the search begins.
 #[tactic(auto, using(crate::proofs::SpanLemmas::spans))]
 pub(crate) fn read_pieces(
     tape: &Tape,
@@ -40,7 +41,8 @@ pub(crate) fn read_pieces(
     requires hint { IsHint list.now hint.piece hint.begin }
     requires place { place + length out.old ≤ total_of list.now }
     requires short { place + length out.old < 2 ^ 32 }
-    ensures { out.new ≡ map (at tape.now pool.now) (take (length out.old) (drop place (addresses list.now))) }
+    ensures { out.new ≡ map (at tape.now pool.now)
+        (take (length out.old) (drop place (addresses list.now))) }
 {
     let mut found = hint;
     let mut done = 0;

@@ -145,7 +145,8 @@ fn record(layers: &mut Layers, pool: &mut Pool, numbers: &[u16]) -> bool
     all
 }
 
-/// Goes on over the open layer's list for so many frames, and adds a number to each. At its end comes its base once more.
+/// Goes on over the open layer's list for so many frames, and adds a number to each. At its end
+/// comes its base once more.
 fn go_over(layers: &mut Layers, pool: &mut Pool, frames: u32, number: i32) -> bool
     requires writing { IsTrue layers.old.writing }
     requires owns { Owns layers.old.tape pool.old }

@@ -24,7 +24,8 @@ impl Layers {
     fn fresh_at(&self, place: u32) -> Option<u32>
         requires writing { IsTrue self.now.writing }
         requires place { place < current_length self.now.stack.layers }
-        ensures fresh { is_fresh (slice_get (current_cells self.now.stack.layers) place) ≡ is_some result }
+        ensures fresh { is_fresh (slice_get (current_cells self.now.stack.layers) place) ≡ is_some
+            result }
         ensures alone { IfSome result (λ a. Alone place a self.now.stack) }
         ensures within { IfSome result (λ a. a < self.now.tape.len) }
     {
@@ -47,7 +48,8 @@ impl Layers {
         ensures writing { self.new.writing ≡ true }
         ensures tape { self.new.tape ≡ self.old.tape }
         ensures there { at self.new.tape pool.new address ≡ frame }
-        ensures elsewhere { (b : ℕ) → b < self.old.tape.len → b ≢ address → at self.new.tape pool.new b ≡ at self.old.tape pool.old b }
+        ensures elsewhere { (b : ℕ) → b < self.old.tape.len → b ≢ address →
+            at self.new.tape pool.new b ≡ at self.old.tape pool.old b }
         ensures keeps { Keeps self.old self.new pool.old pool.new }
     {
         self.tape.check();
@@ -59,8 +61,12 @@ impl Layers {
     fn may_add(&self, how: How) -> bool
         requires { IsTrue self.now.writing }
         ensures short { IsTrue result → IsShort how (current_length self.now.stack.layers) }
-        ensures value { result ≡ ((is_some self.now.stack.run || nat_le (total_seams self.now.stack.layers) (max_seams - 2)) && (overwrites how || nat_lt (current_length self.now.stack.layers) max_list_frames)) }
-        ensures seams { IsTrue result → total_seams self.now.stack.layers + (if is_some self.now.stack.run then 0 else 2) ≤ max_seams }
+        ensures value { result
+            ≡ ((is_some self.now.stack.run
+            || nat_le (total_seams self.now.stack.layers) (max_seams - 2))
+            && (overwrites how || nat_lt (current_length self.now.stack.layers) max_list_frames)) }
+        ensures seams { IsTrue result → total_seams self.now.stack.layers
+            + (if is_some self.now.stack.run then 0 else 2) ≤ max_seams }
     {
         self.fill.check();
         if !self.fill.runs() && self.seams > MAX_SEAMS - 2 {
@@ -82,12 +88,15 @@ impl Layers {
         requires place { IsPlace how place (current_length self.old.stack.layers) }
         requires follows { Follows self.old.stack.run how place }
         requires short { IsShort how (current_length self.old.stack.layers) }
-        requires seams { total_seams self.old.stack.layers + (if is_some self.old.stack.run then 0 else 2) ≤ max_seams }
+        requires seams { total_seams self.old.stack.layers
+            + (if is_some self.old.stack.run then 0 else 2) ≤ max_seams }
         ensures room { result ≡ has_room (reach self.old pool.old) self.old.stack.tape }
         ensures full { IsFalse result → (self.new ≡ self.old) × (pool.new ≡ pool.old) }
-        ensures stack { IsTrue result → self.new.stack ≡ newly_written how place self.old.tape.len self.old.stack }
+        ensures stack { IsTrue result →
+            self.new.stack ≡ newly_written how place self.old.tape.len self.old.stack }
         ensures writing { IsTrue result → self.new.writing ≡ true }
-        ensures pushed { IsTrue result → Pushed self.old.tape self.new.tape pool.old pool.new frame }
+        ensures pushed { IsTrue result →
+            Pushed self.old.tape self.new.tape pool.old pool.new frame }
         ensures whole { IsTrue result → IsWhole self.new.tape }
     {
         self.tape.check();
@@ -139,8 +148,9 @@ impl Layers {
         }
     }
 
-    /// Writes a frame in this manner, over the cell at a place, before it, or at the end. A layer has to be open, and where a run
-    /// goes on the write has to go on with it. False where it doesn't fit, and then nothing changes.
+    /// Writes a frame in this manner, over the cell at a place, before it, or at the end. A layer
+    /// has to be open, and where a run goes on the write has to go on with it. False where it
+    /// doesn't fit, and then nothing changes.
     pub fn write(&mut self, pool: &mut Pool, place: u32, frame: Frame, how: How) -> bool
         requires writing { IsTrue self.old.writing }
         requires owns { Owns self.old.tape pool.old }

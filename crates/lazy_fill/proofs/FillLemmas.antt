@@ -38,23 +38,30 @@ pub below-append : (n : ℕ) (xs ys : List ℕ) → Below n xs → Below n ys �
 below-append n [] ys b c = c
 below-append n (x ∷ xs) ys b c = (b.0, below-append n xs ys b.1 c)
 
-pub below-written : (how : How) (place a : ℕ) (xs : List ℕ) → Below a xs → Below (a + 1) (with_address how place a xs)
-below-written Forward place a xs b = below-set (a + 1) place a xs (omega arith) (below-more a (a + 1) xs (omega arith) b)
-below-written Backward place a xs b = below-set (a + 1) place a xs (omega arith) (below-more a (a + 1) xs (omega arith) b)
-below-written Insert place a xs b = below-insert (a + 1) place a xs (omega arith) (below-more a (a + 1) xs (omega arith) b)
-below-written Append place a xs b = below-append (a + 1) xs (a ∷ []) (below-more a (a + 1) xs (omega arith) b) (omega arith, tt)
+pub below-written : (how : How) (place a : ℕ) (xs : List ℕ) → Below a xs →
+    Below (a + 1) (with_address how place a xs)
+below-written Forward place a xs b =
+    below-set (a + 1) place a xs (omega arith) (below-more a (a + 1) xs (omega arith) b)
+below-written Backward place a xs b =
+    below-set (a + 1) place a xs (omega arith) (below-more a (a + 1) xs (omega arith) b)
+below-written Insert place a xs b =
+    below-insert (a + 1) place a xs (omega arith) (below-more a (a + 1) xs (omega arith) b)
+below-written Append place a xs b =
+    below-append (a + 1) xs (a ∷ []) (below-more a (a + 1) xs (omega arith) b) (omega arith, tt)
 
 -- an address above all others is another than each
 without-above : (a : ℕ) (xs : List ℕ) → Below a xs → Without a xs
 without-above a [] b = tt
 without-above a (x ∷ xs) b = ((λ e. omega (arith, e, b.0)), without-above a xs b.1)
 
-without-set : (x place a : ℕ) (xs : List ℕ) → a ≢ x → Without x xs → Without x (slice_set xs place a)
+without-set : (x place a : ℕ) (xs : List ℕ) → a ≢ x → Without x xs →
+    Without x (slice_set xs place a)
 without-set x place a [] ne w = tt
 without-set x zero a (y ∷ ys) ne w = (ne, w.1)
 without-set x (suc place) a (y ∷ ys) ne w = (w.0, without-set x place a ys ne w.1)
 
-without-insert : (x place a : ℕ) (xs : List ℕ) → a ≢ x → Without x xs → Without x (insert xs place a)
+without-insert : (x place a : ℕ) (xs : List ℕ) → a ≢ x → Without x xs →
+    Without x (insert xs place a)
 without-insert x zero a [] ne w = (ne, tt)
 without-insert x zero a (y ∷ ys) ne w = (ne, w)
 without-insert x (suc place) a [] ne w = (ne, tt)
@@ -64,22 +71,34 @@ without-append : (x : ℕ) (xs ys : List ℕ) → Without x xs → Without x ys 
 without-append x [] ys w v = v
 without-append x (y ∷ xs) ys w v = (w.0, without-append x xs ys w.1 v)
 
-once-set : (floor place a : ℕ) (xs : List ℕ) → Below a xs → Once floor xs → Once floor (slice_set xs place a)
+once-set : (floor place a : ℕ) (xs : List ℕ) → Below a xs → Once floor xs →
+    Once floor (slice_set xs place a)
 once-set floor place a [] b o = tt
 once-set floor zero a (x ∷ xs) b o = ((λ le. without-above a xs b.1), o.1)
-once-set floor (suc place) a (x ∷ xs) b o = ((λ le. without-set x place a xs (λ e. omega (arith, e, b.0)) (o.0 le)), once-set floor place a xs b.1 o.1)
+once-set floor (suc place) a (x ∷ xs) b o = (
+  (λ le. without-set x place a xs (λ e. omega (arith, e, b.0)) (o.0 le)),
+  once-set floor place a xs b.1 o.1,
+)
 
-once-insert : (floor place a : ℕ) (xs : List ℕ) → Below a xs → Once floor xs → Once floor (insert xs place a)
+once-insert : (floor place a : ℕ) (xs : List ℕ) → Below a xs → Once floor xs →
+    Once floor (insert xs place a)
 once-insert floor zero a [] b o = ((λ le. tt), tt)
 once-insert floor zero a (x ∷ xs) b o = ((λ le. without-above a (x ∷ xs) b), o)
 once-insert floor (suc place) a [] b o = ((λ le. tt), tt)
-once-insert floor (suc place) a (x ∷ xs) b o = ((λ le. without-insert x place a xs (λ e. omega (arith, e, b.0)) (o.0 le)), once-insert floor place a xs b.1 o.1)
+once-insert floor (suc place) a (x ∷ xs) b o = (
+  (λ le. without-insert x place a xs (λ e. omega (arith, e, b.0)) (o.0 le)),
+  once-insert floor place a xs b.1 o.1,
+)
 
 once-append : (floor a : ℕ) (xs : List ℕ) → Below a xs → Once floor xs → Once floor (xs ++ a ∷ [])
 once-append floor a [] b o = ((λ le. tt), tt)
-once-append floor a (x ∷ xs) b o = ((λ le. without-append x xs (a ∷ []) (o.0 le) ((λ e. omega (arith, e, b.0)), tt)), once-append floor a xs b.1 o.1)
+once-append floor a (x ∷ xs) b o = (
+  (λ le. without-append x xs (a ∷ []) (o.0 le) ((λ e. omega (arith, e, b.0)), tt)),
+  once-append floor a xs b.1 o.1,
+)
 
-pub once-written : (floor : ℕ) (how : How) (place a : ℕ) (xs : List ℕ) → Below a xs → Once floor xs → Once floor (with_address how place a xs)
+pub once-written : (floor : ℕ) (how : How) (place a : ℕ) (xs : List ℕ) → Below a xs →
+    Once floor xs → Once floor (with_address how place a xs)
 once-written floor Forward place a xs b o = once-set floor place a xs b o
 once-written floor Backward place a xs b o = once-set floor place a xs b o
 once-written floor Insert place a xs b o = once-insert floor place a xs b o
@@ -91,19 +110,26 @@ once-below floor [] b = tt
 once-below floor (x ∷ xs) b = ((λ le. absurd (omega (arith, le, b.0))), once-below floor xs b.1)
 
 -- the pieces after a write are at most its seams
-pub new-length : (how : How) (place next : ℕ) (ps : List Piece) → length (pieces_written how place next ps) ≤ length ps + 2
+pub new-length : (how : How) (place next : ℕ) (ps : List Piece) →
+    length (pieces_written how place next ps) ≤ length ps + 2
 new-length Forward place next ps = overwritten-length place next ps
 new-length Backward place next ps = down-length place next ps
 new-length Insert place next ps = inserted-length place next ps
 new-length Append place next ps = let h = joined-length next ps in grind (arith, h)
 
-on-length : (how : How) (last place next : ℕ) (ps : List Piece) → IsPlace how place (length (addresses ps)) → IsBehind how last place → IsRunOn how last next ps → length (pieces_written how place next ps) ≤ length ps
-on-length Forward last place next ps pl b r = overwritten-length-runs place next ps (rw (sym b) at r)
-on-length Backward last place next ps pl b r = down-length-runs place next ps (let n = length-addresses ps in omega (arith, pl, n)) (rw b at r)
+on-length : (how : How) (last place next : ℕ) (ps : List Piece) →
+    IsPlace how place (length (addresses ps)) → IsBehind how last place → IsRunOn how last next ps →
+    length (pieces_written how place next ps) ≤ length ps
+on-length Forward last place next ps pl b r =
+    overwritten-length-runs place next ps (rw (sym b) at r)
+on-length Backward last place next ps pl b r =
+    down-length-runs place next ps (let n = length-addresses ps in omega (arith, pl, n)) (rw b at r)
 on-length Insert last place next ps pl b r = inserted-length-runs place next ps (rw (sym b) at r)
 on-length Append last place next ps pl b r = joined-length-runs place next ps pl (rw (sym b) at r)
 
-pub written-length : (run : Option LastWrite) (how : How) (place next : ℕ) (ps : List Piece) → IsPlace how place (length (addresses ps)) → Follows run how place → IsRunning run next ps → length (pieces_written how place next ps) ≤ length ps + more_seams run
+pub written-length : (run : Option LastWrite) (how : How) (place next : ℕ) (ps : List Piece) →
+    IsPlace how place (length (addresses ps)) → Follows run how place → IsRunning run next ps →
+    length (pieces_written how place next ps) ≤ length ps + more_seams run
 written-length None how place next ps pl f r = new-length how place next ps
 written-length (Some last) how place next ps pl f r =
     let e : last.how ≡ how = f.0 in
@@ -122,20 +148,25 @@ length-insert [] (suc k) a = refl
 length-insert (x ∷ xs) zero a = omega arith
 length-insert (x ∷ xs) (suc k) a = let h = length-insert xs k a in omega (arith, h)
 
-pub short-written : (how : How) (place a : ℕ) (xs : List ℕ) → IsShort how (length xs) → length (with_address how place a xs) ≤ max_list_frames
+pub short-written : (how : How) (place a : ℕ) (xs : List ℕ) → IsShort how (length xs) →
+    length (with_address how place a xs) ≤ max_list_frames
 short-written Forward place a xs s = let h = length-set xs place a in omega (arith, h, s)
 short-written Backward place a xs s = let h = length-set xs place a in omega (arith, h, s)
 short-written Insert place a xs s = let h = length-insert xs place a in omega (arith, h, s)
 short-written Append place a xs s = let h = length-append xs (a ∷ []) in omega (arith, h, s)
 
 -- no more pieces where a piece goes on to the address
-pub met-length : (how : How) (place next : ℕ) (ps : List Piece) → IsPlace how place (length (addresses ps)) → MeetsPiece how place next ps → length (pieces_written how place next ps) ≤ length ps
+pub met-length : (how : How) (place next : ℕ) (ps : List Piece) →
+    IsPlace how place (length (addresses ps)) → MeetsPiece how place next ps →
+    length (pieces_written how place next ps) ≤ length ps
 met-length Forward place next ps pl m = overwritten-length-runs place next ps m
-met-length Backward place next ps pl m = down-length-runs place next ps (let n = length-addresses ps in omega (arith, pl, n)) m
+met-length Backward place next ps pl m =
+    down-length-runs place next ps (let n = length-addresses ps in omega (arith, pl, n)) m
 met-length Insert place next ps pl m = inserted-length-runs place next ps m
 met-length Append place next ps pl m = joined-length-runs place next ps pl m
 
-pub solid-written : (how : How) (place next : ℕ) (ps : List Piece) → Solid ps → Solid (pieces_written how place next ps)
+pub solid-written : (how : How) (place next : ℕ) (ps : List Piece) → Solid ps →
+    Solid (pieces_written how place next ps)
 solid-written Forward place next ps s = overwritten-solid place next ps s
 solid-written Backward place next ps s = overwritten-down-solid place next ps s
 solid-written Insert place next ps s = inserted-solid place next ps s
@@ -145,29 +176,42 @@ solid-written Append place next ps s = joined-solid next ps s
 fresh-marked : (floor x : ℕ) → floor ≤ x → marked_cell floor x ≡ fresh_cell x
 fresh-marked floor x le = let e : nat_le floor x ≡ true = grind (arith, le) in rw e refl
 
-marked-set : (floor : ℕ) (xs : List ℕ) (k a : ℕ) → floor ≤ a → marked floor (slice_set xs k a) ≡ slice_set (marked floor xs) k (fresh_cell a)
+marked-set : (floor : ℕ) (xs : List ℕ) (k a : ℕ) → floor ≤ a →
+    marked floor (slice_set xs k a) ≡ slice_set (marked floor xs) k (fresh_cell a)
 marked-set floor [] k a le = refl
 marked-set floor (x ∷ xs) zero a le = rw (fresh-marked floor a le) refl
-marked-set floor (x ∷ xs) (suc k) a le = ap (λ t. marked_cell floor x ∷ t) (marked-set floor xs k a le)
+marked-set floor (x ∷ xs) (suc k) a le =
+    ap (λ t. marked_cell floor x ∷ t) (marked-set floor xs k a le)
 
-marked-insert : (floor : ℕ) (xs : List ℕ) (k a : ℕ) → floor ≤ a → marked floor (insert xs k a) ≡ insert (marked floor xs) k (fresh_cell a)
+marked-insert : (floor : ℕ) (xs : List ℕ) (k a : ℕ) → floor ≤ a →
+    marked floor (insert xs k a) ≡ insert (marked floor xs) k (fresh_cell a)
 marked-insert floor [] zero a le = rw (fresh-marked floor a le) refl
 marked-insert floor [] (suc k) a le = rw (fresh-marked floor a le) refl
 marked-insert floor (x ∷ xs) zero a le = rw (fresh-marked floor a le) refl
-marked-insert floor (x ∷ xs) (suc k) a le = ap (λ t. marked_cell floor x ∷ t) (marked-insert floor xs k a le)
+marked-insert floor (x ∷ xs) (suc k) a le =
+    ap (λ t. marked_cell floor x ∷ t) (marked-insert floor xs k a le)
 
-marked-append : (floor : ℕ) (xs : List ℕ) (a : ℕ) → floor ≤ a → marked floor (xs ++ a ∷ []) ≡ marked floor xs ++ fresh_cell a ∷ []
+marked-append : (floor : ℕ) (xs : List ℕ) (a : ℕ) → floor ≤ a →
+    marked floor (xs ++ a ∷ []) ≡ marked floor xs ++ fresh_cell a ∷ []
 marked-append floor [] a le = rw (fresh-marked floor a le) refl
 marked-append floor (x ∷ xs) a le = ap (λ t. marked_cell floor x ∷ t) (marked-append floor xs a le)
 
-pub marked-written : (floor : ℕ) (how : How) (place a : ℕ) (xs : List ℕ) → floor ≤ a → marked floor (with_address how place a xs) ≡ with_cell how place (fresh_cell a) (marked floor xs)
+pub marked-written : (floor : ℕ) (how : How) (place a : ℕ) (xs : List ℕ) → floor ≤ a →
+    marked floor (with_address how place a xs) ≡ with_cell how place (fresh_cell a)
+    (marked floor xs)
 marked-written floor Forward place a xs le = marked-set floor xs place a le
 marked-written floor Backward place a xs le = marked-set floor xs place a le
 marked-written floor Insert place a xs le = marked-insert floor xs place a le
 marked-written floor Append place a xs le = marked-append floor xs a le
 
 -- what a write keeps
-pub fill-written : (f : FillOf) (how : How) (place : ℕ) → IsFill f → IsPlace how place (length f.cells) → Follows f.run how place → f.seams + more_seams f.run ≤ max_seams → IsShort how (length f.cells) → addresses (pieces_written how place f.next f.pieces) ≡ with_address how place f.next (addresses f.pieces) → IsRunOn how place (f.next + 1) (pieces_written how place f.next f.pieces) → IsFill (fill_written how place f)
+pub fill-written : (f : FillOf) (how : How) (place : ℕ) → IsFill f →
+    IsPlace how place (length f.cells) → Follows f.run how place →
+    f.seams + more_seams f.run ≤ max_seams → IsShort how (length f.cells) →
+    addresses (pieces_written how place f.next f.pieces) ≡ with_address how place f.next
+    (addresses f.pieces) →
+    IsRunOn how place (f.next + 1) (pieces_written how place f.next f.pieces) →
+    IsFill (fill_written how place f)
 fill-written f how place i pl fo few s e r = record {
   floor = let t = i.floor in omega (arith, t);
   below = below-written how place f.next f.cells i.below;
@@ -175,7 +219,8 @@ fill-written f how place i pl fo few s e r = record {
   seams = few;
   short = short-written how place f.next f.cells s;
   cells = rw e (ap (λ t. with_address how place f.next t) i.cells);
-  few = let h = written-length f.run how place f.next f.pieces (rw i.cells at pl) fo i.running in let p = i.few in omega (arith, h, p);
+  few = let h = written-length f.run how place f.next f.pieces (rw i.cells at pl) fo i.running in
+      let p = i.few in omega (arith, h, p);
   solid = solid-written how place f.next f.pieces i.solid;
   running = r;
 }
@@ -193,7 +238,8 @@ without-take x (suc k) (y ∷ ys) w = (w.0, without-take x k ys w.1)
 once-take : (floor k : ℕ) (xs : List ℕ) → Once floor xs → Once floor (take k xs)
 once-take floor zero xs o = tt
 once-take floor (suc k) [] o = tt
-once-take floor (suc k) (x ∷ xs) o = ((λ le. without-take x k xs (o.0 le)), once-take floor k xs o.1)
+once-take floor (suc k) (x ∷ xs) o =
+    ((λ le. without-take x k xs (o.0 le)), once-take floor k xs o.1)
 
 length-take-le : (k : ℕ) (xs : List ℕ) → length (take k xs) ≤ length xs
 length-take-le zero xs = omega arith
@@ -212,34 +258,45 @@ fill-cut f k i le =
       seams = i.seams;
       short = let h = length-take-le k f.cells in let s = i.short in omega (arith, h, s);
       cells = rw i.cells (sym (addresses-before k f.pieces (omega (arith, e, n))));
-      few = let h = before-few k f.pieces (omega (arith, e, n)) in let p = i.few in omega (arith, h, p);
+      few = let h = before-few k f.pieces (omega (arith, e, n)) in let p = i.few in
+          omega (arith, h, p);
       solid = solid-before k f.pieces i.solid;
       running = tt;
     }
 
 below-without-at : (n a : ℕ) (xs : List ℕ) → n ≤ a → Below n xs → Without a xs
 below-without-at n a [] le b = tt
-below-without-at n a (x ∷ xs) le b = ((λ e. omega (arith, e, le, b.0)), below-without-at n a xs le b.1)
+below-without-at n a (x ∷ xs) le b =
+    ((λ e. omega (arith, e, le, b.0)), below-without-at n a xs le b.1)
 
-once-extended : (floor : ℕ) (xs ys : List ℕ) → Below floor ys → Once floor xs → Once floor (xs ++ ys)
+once-extended : (floor : ℕ) (xs ys : List ℕ) → Below floor ys → Once floor xs →
+    Once floor (xs ++ ys)
 once-extended floor [] ys b o = once-below floor ys b
-once-extended floor (x ∷ xs) ys b o = ((λ le. without-append x xs ys (o.0 le) (below-without-at floor x ys le b)), once-extended floor xs ys b o.1)
+once-extended floor (x ∷ xs) ys b o = (
+  (λ le. without-append x xs ys (o.0 le) (below-without-at floor x ys le b)),
+  once-extended floor xs ys b o.1,
+)
 
-on-extended : (how : How) (place next : ℕ) (ps qs : List Piece) → Solid qs → IsRunOn how place next ps → IsRunOn how place next (ps ++ qs)
+on-extended : (how : How) (place next : ℕ) (ps qs : List Piece) → Solid qs →
+    IsRunOn how place next ps → IsRunOn how place next (ps ++ qs)
 on-extended Forward place next ps qs s r = runs-extended (place + 1) next ps qs s r
 on-extended Backward place next ps qs s r = down-extended place next ps qs r
 on-extended Insert place next ps qs s r = runs-extended (place + 1) next ps qs s r
 on-extended Append place next ps qs s r = runs-extended (place + 1) next ps qs s r
 
-pub running-extended : (run : Option LastWrite) (next : ℕ) (ps qs : List Piece) → Solid qs → IsRunning run next ps → IsRunning run next (ps ++ qs)
+pub running-extended : (run : Option LastWrite) (next : ℕ) (ps qs : List Piece) → Solid qs →
+    IsRunning run next ps → IsRunning run next (ps ++ qs)
 running-extended None next ps qs s r = tt
 running-extended (Some last) next ps qs s r = on-extended last.how last.place next ps qs s r
 
 -- what an extension keeps
-pub fill-extended : (f : FillOf) (ps : List Piece) (more : ℕ) → IsFill f → Solid ps → length ps ≤ more → Below f.floor (addresses ps) → f.seams + more ≤ max_seams → length f.cells + length (addresses ps) ≤ max_list_frames → IsFill (fill_extended ps more f)
+pub fill-extended : (f : FillOf) (ps : List Piece) (more : ℕ) → IsFill f → Solid ps →
+    length ps ≤ more → Below f.floor (addresses ps) → f.seams + more ≤ max_seams →
+    length f.cells + length (addresses ps) ≤ max_list_frames → IsFill (fill_extended ps more f)
 fill-extended f ps more i sp fp b few s = record {
   floor = i.floor;
-  below = below-append f.next f.cells (addresses ps) i.below (below-more f.floor f.next (addresses ps) i.floor b);
+  below = below-append f.next f.cells (addresses ps) i.below
+      (below-more f.floor f.next (addresses ps) i.floor b);
   once = once-extended f.floor f.cells (addresses ps) b i.once;
   seams = few;
   short = let h = length-append f.cells (addresses ps) in omega (arith, h, s);
@@ -257,4 +314,5 @@ cut-within k ps le = let n = length-addresses ps in omega (arith, n, le)
 
 pub ruleset cuts = (fill-cut, addresses-before, cut-within)
 
-pub ruleset drafts = (once-below, written-length, met-length, new-length, marked-written, fill-written)
+pub ruleset drafts =
+    (once-below, written-length, met-length, new-length, marked-written, fill-written)

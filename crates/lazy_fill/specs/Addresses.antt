@@ -1,4 +1,5 @@
--- Lists of addresses on a tape: all below one, none the same as one, and each from a floor on only once.
+-- Lists of addresses on a tape: all below one, none the same as one, and each from a floor on only
+-- once.
 -- "The layer that is written" in docs/rules.md.
 use Rattle.std.specs.Prelude.{◌≢◌, ◌≤◌, ◌<◌, ℕ, ⊤, List, [], ◌∷◌}
 use Rattle.std.specs.List.{AllByRecursion}

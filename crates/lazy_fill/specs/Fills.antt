@@ -1,5 +1,6 @@
--- The layer that is being written: its addresses in pieces, a floor from which on they are fresh, the address that the next
--- write takes, which is above all of them, its seams, and the run that goes on.
+-- The layer that is being written: its addresses in pieces, a floor from which on they are fresh,
+-- the address that the next write takes, which is above all of them, its seams, and the run that
+-- goes on.
 -- "The layer that is written" in docs/rules.md.
 use Rattle.std.specs.Prelude.{◌≡◌, ◌≤◌, ℕ, zero, suc, ◌+◌, List, ◌++◌, length, take, Option, Some, None}
 use Rattle.sl_base.specs.Limits.{max_list_frames, max_seams}
@@ -20,7 +21,8 @@ pub record FillOf : Type 0 where
   pub run : Option LastWrite
   pub pieces : List Piece
 
--- what always holds of it: no address of a fresh cell stands twice, and the pieces are at most the seams
+-- what always holds of it: no address of a fresh cell stands twice, and the pieces are at most the
+-- seams
 pub record IsFill (f : FillOf) : Type 0 where
   pub floor : f.floor ≤ f.next
   pub below : Below f.next f.cells
@@ -35,7 +37,15 @@ pub record IsFill (f : FillOf) : Type 0 where
 -- nothing is written yet, from these pieces on, at addresses from the floor on
 abbrev pub fill_started : List Piece → ℕ → ℕ → FillOf
 fill_started ps seams floor =
-    record { cells = addresses ps; floor = floor; next = floor; seams = seams; run = None; pieces = ps }
+    record {
+      cells = addresses ps;
+      floor = floor;
+      next = floor;
+      seams = seams;
+      run = None;
+      pieces =
+          ps;
+    }
 
 -- the next address written
 abbrev pub fill_written : How → ℕ → FillOf → FillOf
@@ -83,4 +93,9 @@ cut_pieces (Some k) ps = before k ps
 
 -- cut to so many cells, or not
 abbrev pub fill_cut : Option ℕ → FillOf → FillOf
-fill_cut cut f = record f { cells = cut_list cut f.cells; run = None; pieces = cut_pieces cut f.pieces }
+fill_cut cut f = record f {
+  cells = cut_list cut f.cells;
+  run = None;
+  pieces =
+      cut_pieces cut f.pieces;
+}

@@ -1,4 +1,5 @@
--- A cell of the layer that is written is fresh where its address is at or above the floor: so one number keeps all marks.
+-- A cell of the layer that is written is fresh where its address is at or above the floor: so one
+-- number keeps all marks.
 -- "The layer that is written" in docs/rules.md.
 use Rattle.std.specs.Prelude.{ℕ, List, map, nat_le}
 use Rattle.looper_rules.specs.Layers.{Cell}

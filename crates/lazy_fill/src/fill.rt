@@ -72,7 +72,8 @@ impl Fill {
         let _next = self.next;
     }
 
-    /// Begins anew with a copy of these pieces, none of them fresh. The first write takes the address `floor`.
+    /// Begins anew with a copy of these pieces, none of them fresh. The first write takes the
+    /// address `floor`.
     #[tactic(auto, using(crate::proofs::FillLemmas::drafts))]
     pub fn start(&mut self, pieces: &[Piece], seams: u32, floor: u32)
         requires solid { Solid pieces.now }
@@ -179,14 +180,16 @@ impl Fill {
         self.floor <= address
     }
 
-    /// How many cells from a place on, at most `count`, surely aren't fresh: as far as its piece goes.
+    /// How many cells from a place on, at most `count`, surely aren't fresh: as far as its piece
+    /// goes.
     #[tactic(auto, using(crate::proofs::SpanLemmas::cells))]
     pub fn old_cells(&self, place: u32, count: u32) -> u32
         requires place { place < length self.now.cells }
         requires some { 1 ≤ count }
         ensures within { result ≤ count }
         ensures inside { place + result ≤ length self.now.cells }
-        ensures old { (k : ℕ) → k < result → nat_le self.now.floor (get_or self.now.cells (place + k) 0) ≡ false }
+        ensures old { (k : ℕ) → k < result →
+            nat_le self.now.floor (get_or self.now.cells (place + k) 0) ≡ false }
     {
         let run = run_from(self.list.pieces(), self.list.near(place), place, count);
         if run.start >= self.floor {
@@ -198,14 +201,16 @@ impl Fill {
         run.len().min(self.floor - run.start)
     }
 
-    /// How many cells from a place on, at most `count`, are fresh and hold addresses that rise one by one: as far as its piece goes.
+    /// How many cells from a place on, at most `count`, are fresh and hold addresses that rise one
+    /// by one: as far as its piece goes.
     #[tactic(auto, using(crate::proofs::SpanLemmas::cells))]
     pub fn fresh_cells(&self, place: u32, count: u32) -> u32
         requires place { place < length self.now.cells }
         requires some { 1 ≤ count }
         ensures within { result ≤ count }
         ensures inside { place + result ≤ length self.now.cells }
-        ensures row { (k : ℕ) → k < result → get_or self.now.cells (place + k) 0 ≡ get_or self.now.cells place 0 + k }
+        ensures row { (k : ℕ) → k < result →
+            get_or self.now.cells (place + k) 0 ≡ get_or self.now.cells place 0 + k }
         ensures fresh { 1 ≤ result → self.now.floor ≤ get_or self.now.cells place 0 }
     {
         let run = run_from(self.list.pieces(), self.list.near(place), place, count);
@@ -258,7 +263,8 @@ impl Fill {
         }
     }
 
-    /// Writes the next address at a place. It makes a fresh cell over the one there, before it, or at the end.
+    /// Writes the next address at a place. It makes a fresh cell over the one there, before it, or
+    /// at the end.
     #[tactic(auto, using(crate::proofs::FillLemmas::drafts))]
     pub fn write(&mut self, place: u32, how: How)
         requires place { IsPlace how place (length self.old.cells) }
@@ -267,9 +273,11 @@ impl Fill {
         requires next { self.old.next + 1 < 2 ^ 32 }
         requires short { IsShort how (length self.old.cells) }
         ensures value { self.new ≡ fill_written how place self.old }
-        ensures cells { marked self.new.floor self.new.cells ≡ with_cell how place (fresh_cell self.old.next) (marked self.old.floor self.old.cells) }
+        ensures cells { marked self.new.floor self.new.cells ≡ with_cell how place
+            (fresh_cell self.old.next) (marked self.old.floor self.old.cells) }
         ensures within { length self.new.pieces ≤ length self.old.pieces + 2 }
-        ensures met { MeetsPiece how place self.old.next self.old.pieces → length self.new.pieces ≤ length self.old.pieces }
+        ensures met { MeetsPiece how place self.old.next self.old.pieces →
+            length self.new.pieces ≤ length self.old.pieces }
         ensures continues { IsRunOn how place self.new.next self.new.pieces }
     {
         let more = self.more();
@@ -279,8 +287,9 @@ impl Fill {
         self.run = Some(Last { place, how });
     }
 
-    /// Writes the next addresses in a row, each over the one at its place, as many as one piece takes in a run that goes on, but
-    /// not its last. It says how many, at most `count`; none where no run goes on.
+    /// Writes the next addresses in a row, each over the one at its place, as many as one piece
+    /// takes in a run that goes on, but not its last. It says how many, at most `count`; none where
+    /// no run goes on.
     #[tactic(auto, using(crate::proofs::SpanLemmas::spans))]
     pub fn write_span(&mut self, place: u32, count: u32) -> u32
         requires within { place + count ≤ length self.old.cells }

@@ -14,7 +14,8 @@ pub(crate) fn write_address(list: &mut PieceList, place: u32, address: u32, how:
     requires short { IsShort how (length (addresses list.old.items)) }
     requires room { length (pieces_written how place address list.old.items) ≤ list.old.room }
     ensures pieces { list.new ≡ holding (pieces_written how place address list.old.items) list.old }
-    ensures addresses { addresses list.new.items ≡ with_address how place address (addresses list.old.items) }
+    ensures addresses { addresses list.new.items ≡ with_address how place address
+        (addresses list.old.items) }
     ensures runs { IsRunOn how place (address + 1) list.new.items }
 {
     match how {

@@ -36,22 +36,28 @@ new_redo s n = ap (λ (t : Stack ℕ). t.redo) n.stack
 pub new_pin : (s : Parts) → IsNew (loop_of s) → s.layers.stack.pin ≡ None
 new_pin s n = ap (λ (t : Stack ℕ). t.pin) n.stack
 
-pub new_end : (s : Parts) → IsNew (loop_of s) → s.layers.stack.tape ≡ current_end s.layers.stack.layers
-new_end s n = ap (λ (t : Stack ℕ). t.tape) n.stack ∙ sym (ap (λ (t : Stack ℕ). current_end t.layers) n.stack)
+pub new_end : (s : Parts) → IsNew (loop_of s) →
+    s.layers.stack.tape ≡ current_end s.layers.stack.layers
+new_end s n = ap (λ (t : Stack ℕ). t.tape) n.stack
+    ∙ sym (ap (λ (t : Stack ℕ). current_end t.layers) n.stack)
 
 pub new_count : (s : Parts) → IsNew (loop_of s) → length s.layers.stack.layers < max_layers
-new_count s n = let e : length s.layers.stack.layers ≡ 0 = ap (λ (t : Stack ℕ). length t.layers) n.stack in omega arith
+new_count s n = let e : length s.layers.stack.layers ≡ 0 =
+    ap (λ (t : Stack ℕ). length t.layers) n.stack in omega arith
 
 pub new_seams : (s : Parts) → IsNew (loop_of s) → total_seams s.layers.stack.layers ≤ max_seams - 2
-new_seams s n = let e : total_seams s.layers.stack.layers ≡ 0 = ap (λ (t : Stack ℕ). total_seams t.layers) n.stack in omega arith
+new_seams s n = let e : total_seams s.layers.stack.layers ≡ 0 =
+    ap (λ (t : Stack ℕ). total_seams t.layers) n.stack in omega arith
 
-pub new_room : (s : Parts) (p : PoolOf) (k : ℕ) → IsNew (loop_of s) → chunks_of k ≤ free_in p → chunks_of (s.layers.stack.tape + k) ≤ reach s.layers p
+pub new_room : (s : Parts) (p : PoolOf) (k : ℕ) → IsNew (loop_of s) → chunks_of k ≤ free_in p →
+    chunks_of (s.layers.stack.tape + k) ≤ reach s.layers p
 new_room s p k n fits =
     let none : s.layers.stack.tape ≡ 0 = ap (λ (t : Stack ℕ). t.tape) n.stack
     in omega (arith, none, fits)
 
 -- its layer is closed
-loaded_closed : {A : Type 0} (list : List A) (cycle end : ℕ) → 1 ≤ length list → 1 ≤ cycle → cycle ≤ length list → IsClosed (loaded_layer list cycle end)
+loaded_closed : {A : Type 0} (list : List A) (cycle end : ℕ) → 1 ≤ length list → 1 ≤ cycle →
+    cycle ≤ length list → IsClosed (loaded_layer list cycle end)
 loaded_closed list cycle end some from to =
     let same : length (old_cells list) ≡ length list = length-map list old_cell
     in record {
@@ -64,7 +70,9 @@ loaded_closed list cycle end some from to =
     }
 
 -- a loop that begins with a list is one that a run may reach
-loaded_loop : {A : Type 0} (list : List A) (cycle : ℕ) (l : Loop A) → 1 ≤ length list → length list ≤ max_list_frames → 1 ≤ cycle → cycle ≤ length list → l.refused ≡ 0 → IsLoop (loads list cycle 0 l)
+loaded_loop : {A : Type 0} (list : List A) (cycle : ℕ) (l : Loop A) → 1 ≤ length list →
+    length list ≤ max_list_frames → 1 ≤ cycle → cycle ≤ length list → l.refused ≡ 0 →
+    IsLoop (loads list cycle 0 l)
 loaded_loop list cycle l some short from to none =
     let same : length (old_cells list) ≡ length list = length-map list old_cell
     in let closed = loaded_closed list cycle (length list) some from to
@@ -73,7 +81,15 @@ loaded_loop list cycle l some short from to none =
     in record {
       in_mode = (((closed, tt), closed.not_empty), tt);
       run = refl;
-      stack = record { layers_within = ((few, all), tt); redo_within = tt; pin_within = omega arith; count = omega arith; seams = omega arith; order = (omega arith, tt); redo_order = tt };
+      stack = record {
+        layers_within = ((few, all), tt);
+        redo_within = tt;
+        pin_within = omega arith;
+        count = omega arith;
+        seams = omega arith;
+        order = (omega arith, tt);
+        redo_order = tt;
+      };
       refused = omega arith;
     }
 
@@ -85,54 +101,102 @@ paused : (d : DeckOf) → d ≡ new_deck Off → record d { mode = Paused } ≡ 
 paused d is = ap (λ (e : DeckOf). record e { mode = Paused }) is
 
 -- a list on an empty stack
-loaded_empty : {A : Type 0} (list : List A) (cycle : ℕ) → loaded list cycle empty_stack ≡ loaded_stack list cycle
+loaded_empty : {A : Type 0} (list : List A) (cycle : ℕ) →
+    loaded list cycle empty_stack ≡ loaded_stack list cycle
 loaded_empty {A} list cycle =
     let none : 0 + length list ≡ length list = omega arith
-    in ap (λ n. let s : Stack A = record { layers = loaded_layer list cycle n ∷ []; redo = []; tape = n; pin = None; run = None } in s) none
+    in ap (λ n. let s : Stack A =
+    record {
+      layers = loaded_layer list cycle n ∷ [];
+      redo = [];
+      tape = n;
+      pin = None;
+      run =
+          None;
+    } in s) none
 
 -- the stack of addresses behind it
-loaded_addresses : (s : Parts) (h : Held) (p p' : PoolOf) (list : List Sound) (cycle : ℕ) → IsNew (loop_of s) → Loads list cycle s.layers h p p' → h.stack ≡ loaded_stack (range_with_len 0 (length list)) cycle
-loaded_addresses s h p p' list cycle n l = l.stack ∙ ap (λ (t : Stack ℕ). loaded (range_with_len t.tape (length list)) cycle t) n.stack ∙ loaded_empty (range_with_len 0 (length list)) cycle
+loaded_addresses : (s : Parts) (h : Held) (p p' : PoolOf) (list : List Sound) (cycle : ℕ) →
+    IsNew (loop_of s) → Loads list cycle s.layers h p p' →
+    h.stack ≡ loaded_stack (range_with_len 0 (length list)) cycle
+loaded_addresses s h p p' list cycle n l =
+    l.stack ∙ ap (λ (t : Stack ℕ). loaded (range_with_len t.tape (length list)) cycle t) n.stack
+    ∙ loaded_empty (range_with_len 0 (length list)) cycle
 
-loop_addresses : (s : Parts) (h : Held) (p p' : PoolOf) (list : List Sound) (cycle : ℕ) → IsNew (loop_of s) → Loads list cycle s.layers h p p' → loop_of (loaded_parts s h) ≡ loads (range_with_len 0 (length list)) cycle 0 (loop_of s)
+loop_addresses : (s : Parts) (h : Held) (p p' : PoolOf) (list : List Sound) (cycle : ℕ) →
+    IsNew (loop_of s) → Loads list cycle s.layers h p p' →
+    loop_of (loaded_parts s h) ≡ loads (range_with_len 0 (length list)) cycle 0 (loop_of s)
 loop_addresses s h p p' list cycle n l =
-    ap (λ (d : DeckOf). let m : Loop ℕ = record (loop_of s) { deck = d; stack = h.stack } in m) (paused (loop_of s).deck n.deck)
-    ∙ ap (λ (t : Stack ℕ). let m : Loop ℕ = record (loop_of s) { deck = new_deck Paused; stack = t } in m) (loaded_addresses s h p p' list cycle n l)
+    ap (λ (d : DeckOf). let m : Loop ℕ = record (loop_of s) { deck = d; stack = h.stack } in m)
+    (paused (loop_of s).deck n.deck)
+    ∙ ap (λ (t : Stack ℕ). let m : Loop ℕ =
+    record (loop_of s) { deck = new_deck Paused; stack = t } in m)
+    (loaded_addresses s h p p' list cycle n l)
 
-pub whole_loaded : (s : Parts) (h : Held) (p p' : PoolOf) (list : List Sound) (cycle : ℕ) → IsWhole s → IsNew (loop_of s) → 1 ≤ length list → length list ≤ max_list_frames → 1 ≤ cycle → cycle ≤ length list →
+pub whole_loaded : (s : Parts) (h : Held) (p p' : PoolOf) (list : List Sound) (cycle : ℕ) →
+    IsWhole s → IsNew (loop_of s) → 1 ≤ length list → length list ≤ max_list_frames → 1 ≤ cycle →
+    cycle ≤ length list →
     Loads list cycle s.layers h p p' → IsWhole (loaded_parts s h)
 whole_loaded s h p p' list cycle w n some short from to l =
-    let same : length (range_with_len 0 (length list)) ≡ length list = length-range_with_len 0 (length list)
+    let same : length (range_with_len 0 (length list)) ≡ length list =
+    length-range_with_len 0 (length list)
     in record {
-      loop = subst (λ (m : Loop ℕ). IsLoop m) (sym (loop_addresses s h p p' list cycle n l)) (loaded_loop (range_with_len 0 (length list)) cycle (loop_of s) (omega arith) (omega arith) from (omega arith) n.refused);
+      loop = subst (λ (m : Loop ℕ). IsLoop m) (sym (loop_addresses s h p p' list cycle n l))
+          (loaded_loop (range_with_len 0 (length list)) cycle (loop_of s) (omega arith)
+          (omega arith) from (omega arith) n.refused);
       writing = l.writing;
-      pinned = ap (λ (t : Stack ℕ). is_some t.pin) (loaded_addresses s h p p' list cycle n l) ∙ sym (ap (λ (t : Stack ℕ). is_some t.pin) n.stack) ∙ w.pinned;
+      pinned = ap (λ (t : Stack ℕ). is_some t.pin) (loaded_addresses s h p p' list cycle n l)
+          ∙ sym (ap (λ (t : Stack ℕ). is_some t.pin) n.stack) ∙ w.pinned;
       controls = w.controls;
     }
 
 -- what it did
-loaded_seen : (s : Parts) (h : Held) (p p' : PoolOf) (list : List Sound) (cycle : ℕ) → IsNew (loop_of s) → Loads list cycle s.layers h p p' → stack_map (at h.tape p') h.stack ≡ loaded_stack list cycle
-loaded_seen s h p p' list cycle n l = l.seen ∙ ap (λ (t : Stack ℕ). loaded list cycle (stack_map (at s.layers.tape p) t)) n.stack ∙ loaded_empty list cycle
+loaded_seen : (s : Parts) (h : Held) (p p' : PoolOf) (list : List Sound) (cycle : ℕ) →
+    IsNew (loop_of s) → Loads list cycle s.layers h p p' →
+    stack_map (at h.tape p') h.stack ≡ loaded_stack list cycle
+loaded_seen s h p p' list cycle n l =
+    l.seen ∙ ap (λ (t : Stack ℕ). loaded list cycle (stack_map (at s.layers.tape p) t)) n.stack
+    ∙ loaded_empty list cycle
 
-pub did_loaded : (s : Parts) (h : Held) (p p' : PoolOf) (list : List Sound) (cycle : ℕ) → Owns (strip_of s) p → IsNew (loop_of s) → IsShared h → Loads list cycle s.layers h p p' →
+pub did_loaded : (s : Parts) (h : Held) (p p' : PoolOf) (list : List Sound) (cycle : ℕ) →
+    Owns (strip_of s) p → IsNew (loop_of s) → IsShared h → Loads list cycle s.layers h p p' →
     Did (loads list cycle) (strip_of s) (strip_of (loaded_parts s h)) p p'
 did_loaded s h p p' list cycle o n shared l =
     let f = at s.layers.tape p
     in did_kept (loads list cycle) s (loaded_parts s h) p p' o l.keeps shared
     (seen-is (strip_of (loaded_parts s h)) p'
-    ∙ ap (λ (d : DeckOf). let m : Loop Sound = record (loop_map f (loop_of s)) { deck = d; stack = stack_map (at h.tape p') h.stack } in m) (paused (loop_of s).deck n.deck)
-    ∙ ap (λ (t : Stack Sound). let m : Loop Sound = record (loop_map f (loop_of s)) { deck = new_deck Paused; stack = t } in m) (loaded_seen s h p p' list cycle n l)
-    ∙ ap (λ (m : Loop Sound). loads list cycle (reach_in (strip_of s) p) m) (sym (seen-is (strip_of s) p)))
+    ∙ ap (λ (d : DeckOf). let m : Loop Sound = record (loop_map f (loop_of s))
+    { deck = d; stack = stack_map (at h.tape p') h.stack } in m) (paused (loop_of s).deck n.deck)
+    ∙ ap (λ (t : Stack Sound). let m : Loop Sound = record (loop_map f (loop_of s))
+    { deck = new_deck Paused; stack = t } in m) (loaded_seen s h p p' list cycle n l)
+    ∙ ap (λ (m : Loop Sound). loads list cycle (reach_in (strip_of s) p) m)
+    (sym (seen-is (strip_of s) p)))
 
 -- a new loop with a list is the one with which a run begins
-begun_with : (list : List Sound) (cycle reach : ℕ) (settings : StripSettings) → 1 ≤ length list → loads list cycle reach (first_loop [] settings) ≡ first_loop list (record settings { cycle = cycle })
+begun_with : (list : List Sound) (cycle reach : ℕ) (settings : StripSettings) → 1 ≤ length list →
+    loads list cycle reach (first_loop [] settings) ≡ first_loop list
+    (record settings { cycle = cycle })
 begun_with [] cycle reach settings some = absurd (omega (arith, some))
 begun_with (x ∷ xs) cycle reach settings some = refl
 
-pub first_loaded : (s s' : StripOf) (p p' : PoolOf) (list : List Sound) (cycle : ℕ) (settings : StripSettings) → 1 ≤ length list → Did (loads list cycle) s s' p p' → seen s p ≡ first_loop [] settings →
+pub first_loaded : (s s' : StripOf) (p p' : PoolOf) (list : List Sound) (cycle : ℕ)
+    (settings : StripSettings) → 1 ≤ length list → Did (loads list cycle) s s' p p' →
+    seen s p ≡ first_loop [] settings →
     seen s' p' ≡ first_loop list (record settings { cycle = cycle })
-first_loaded s s' p p' list cycle settings some d first = d.seen ∙ ap (loads list cycle (reach_in s p)) first ∙ begun_with list cycle (reach_in s p) settings some
+first_loaded s s' p p' list cycle settings some d first =
+    d.seen ∙ ap (loads list cycle (reach_in s p)) first
+    ∙ begun_with list cycle (reach_in s p) settings some
 
-pub ruleset loading = (new_closed, new_redo, new_pin, new_end, new_count, new_seams, new_room, whole_loaded, did_loaded)
+pub ruleset loading = (
+  new_closed,
+  new_redo,
+  new_pin,
+  new_end,
+  new_count,
+  new_seams,
+  new_room,
+  whole_loaded,
+  did_loaded,
+)
 
 pub ruleset beginning = (first_loaded)

@@ -31,12 +31,19 @@ pub rest_quiet : (mode : Mode) → IsAtRest mode → is_writing mode ≡ false
 rest_quiet mode is = resting_is_quiet mode (rests mode is)
 
 -- something that keeps the loop, the pin and the mode
-keeps_mode : (s s' : Parts) (l : Loop ℕ) → IsWhole s → loop_of s' ≡ l → Keeps (own (chunks_of s.layers.stack.tape) s) l → s'.pinned ≡ s.pinned → s'.layers.writing ≡ s.layers.writing → is_writing l.deck.mode ≡ is_writing s.deck.mode → IsWhole s'
+keeps_mode : (s s' : Parts) (l : Loop ℕ) → IsWhole s → loop_of s' ≡ l →
+    Keeps (own (chunks_of s.layers.stack.tape) s) l → s'.pinned ≡ s.pinned →
+    s'.layers.writing ≡ s.layers.writing → is_writing l.deck.mode ≡ is_writing s.deck.mode →
+    IsWhole s'
 keeps_mode s s' l w is k pinned writing mode =
-    whole_after (chunks_of s.layers.stack.tape) s s' w (kept_as (chunks_of s.layers.stack.tape) s s' l is k) pinned (writing ∙ w.writing ∙ sym mode ∙ sym (ap is_writing (same_mode s s' l is)))
+    whole_after (chunks_of s.layers.stack.tape) s s' w
+    (kept_as (chunks_of s.layers.stack.tape) s s' l is k) pinned
+    (writing ∙ w.writing ∙ sym mode ∙ sym (ap is_writing (same_mode s s' l is)))
 
-pub whole_refused : (s s' : Parts) → IsWhole s → loop_of s' ≡ refused_once (loop_of s) → s'.layers ≡ s.layers → s'.pinned ≡ s.pinned → IsWhole s'
-whole_refused s s' w is layers pinned = keeps_mode s s' (refused_once (loop_of s)) w is (refused_keeps (own_keeps s w)) pinned (ap (λ (h : Held). h.writing) layers) refl
+pub whole_refused : (s s' : Parts) → IsWhole s → loop_of s' ≡ refused_once (loop_of s) →
+    s'.layers ≡ s.layers → s'.pinned ≡ s.pinned → IsWhole s'
+whole_refused s s' w is layers pinned = keeps_mode s s' (refused_once (loop_of s)) w is
+    (refused_keeps (own_keeps s w)) pinned (ap (λ (h : Held). h.writing) layers) refl
 
 -- the mode that is set is the mode
 set_same : {A : Type 0} (mode : Mode) (l : Loop A) → l.deck.mode ≡ mode → set_to mode l ≡ l
@@ -46,67 +53,98 @@ left_quiet : {A : Type 0} (layers : List (Layer A)) → is_writing (mode_after_w
 left_quiet [] = refl
 left_quiet (x ∷ xs) = refl
 
-pub left_keeps : {A : Type 0} {a : Unchanged} (l : Loop A) → l.deck.mode ≡ WaitStart → Keeps a l → Keeps a (leaves_wait l)
+pub left_keeps : {A : Type 0} {a : Unchanged} (l : Loop A) → l.deck.mode ≡ WaitStart → Keeps a l →
+    Keeps a (leaves_wait l)
 left_keeps {a = a} l is h =
     let same : set_to WaitStart l ≡ l = set_same WaitStart l is
-    in let there : Keeps a (leaves_wait (set_to WaitStart l)) = leaves_wait_keeps l (subst (λ (m : Loop _). Keeps a m) (sym same) h)
+    in let there : Keeps a (leaves_wait (set_to WaitStart l)) =
+    leaves_wait_keeps l (subst (λ (m : Loop _). Keeps a m) (sym same) h)
     in subst (λ (m : Loop _). Keeps a (leaves_wait m)) same there
 
-pub whole_left : (s s' : Parts) → IsWhole s → s.deck.mode ≡ WaitStart → loop_of s' ≡ leaves_wait (loop_of s) → s'.layers ≡ s.layers → s'.pinned ≡ s.pinned → IsWhole s'
+pub whole_left : (s s' : Parts) → IsWhole s → s.deck.mode ≡ WaitStart →
+    loop_of s' ≡ leaves_wait (loop_of s) → s'.layers ≡ s.layers → s'.pinned ≡ s.pinned → IsWhole s'
 whole_left s s' w waits is layers pinned =
-    keeps_mode s s' (leaves_wait (loop_of s)) w is (left_keeps (loop_of s) waits (own_keeps s w)) pinned (ap (λ (h : Held). h.writing) layers)
+    keeps_mode s s' (leaves_wait (loop_of s)) w is (left_keeps (loop_of s) waits (own_keeps s w))
+    pinned (ap (λ (h : Held). h.writing) layers)
     (left_quiet s.layers.stack.layers ∙ sym (ap is_writing waits))
 
 pub rounds_keeps : {A : Type 0} {a : Unchanged} (l : Loop A) → Keeps a l → Keeps a (rounds l)
-rounds_keeps l h = with_deck (record l.deck { rounding = true }) l.stack.run h h.loop.in_mode h.loop.run refl
+rounds_keeps l h =
+    with_deck (record l.deck { rounding = true }) l.stack.run h h.loop.in_mode h.loop.run refl
 
-pub whole_rounds : (s s' : Parts) → IsWhole s → loop_of s' ≡ rounds (loop_of s) → s'.layers ≡ s.layers → s'.pinned ≡ s.pinned → IsWhole s'
-whole_rounds s s' w is layers pinned = keeps_mode s s' (rounds (loop_of s)) w is (rounds_keeps (loop_of s) (own_keeps s w)) pinned (ap (λ (h : Held). h.writing) layers) refl
+pub whole_rounds : (s s' : Parts) → IsWhole s → loop_of s' ≡ rounds (loop_of s) →
+    s'.layers ≡ s.layers → s'.pinned ≡ s.pinned → IsWhole s'
+whole_rounds s s' w is layers pinned = keeps_mode s s' (rounds (loop_of s)) w is
+    (rounds_keeps (loop_of s) (own_keeps s w)) pinned (ap (λ (h : Held). h.writing) layers) refl
 
-pub in_mode_keeps : {A : Type 0} {a : Unchanged} (mode : Mode) (l : Loop A) → IsAtRest l.deck.mode → IsAtRest mode → Keeps a l → Keeps a (in_mode mode l)
-in_mode_keeps mode l before now h = rests_again mode l.deck.pos l.deck.backward (rests l.deck.mode before) (rests mode now) (resting_inside (rests l.deck.mode before) h) h
+pub in_mode_keeps : {A : Type 0} {a : Unchanged} (mode : Mode) (l : Loop A) → IsAtRest l.deck.mode →
+    IsAtRest mode → Keeps a l → Keeps a (in_mode mode l)
+in_mode_keeps mode l before now h = rests_again mode l.deck.pos l.deck.backward
+    (rests l.deck.mode before) (rests mode now) (resting_inside (rests l.deck.mode before) h) h
 
-pub whole_in_mode : (mode : Mode) (s s' : Parts) → IsWhole s → IsAtRest s.deck.mode → IsAtRest mode → loop_of s' ≡ in_mode mode (loop_of s) → s'.layers ≡ s.layers → s'.pinned ≡ s.pinned → IsWhole s'
+pub whole_in_mode : (mode : Mode) (s s' : Parts) → IsWhole s → IsAtRest s.deck.mode →
+    IsAtRest mode → loop_of s' ≡ in_mode mode (loop_of s) → s'.layers ≡ s.layers →
+    s'.pinned ≡ s.pinned → IsWhole s'
 whole_in_mode mode s s' w before now is layers pinned =
-    keeps_mode s s' (in_mode mode (loop_of s)) w is (in_mode_keeps mode (loop_of s) before now (own_keeps s w)) pinned (ap (λ (h : Held). h.writing) layers)
+    keeps_mode s s' (in_mode mode (loop_of s)) w is
+    (in_mode_keeps mode (loop_of s) before now (own_keeps s w)) pinned
+    (ap (λ (h : Held). h.writing) layers)
     (rest_quiet mode now ∙ sym (rest_quiet s.deck.mode before))
 
 start_inside : (backward : Bool) (pos len : ℕ) → pos < len → start_place backward len < len
 start_inside true pos len inside = omega arith
 start_inside false pos len inside = omega arith
 
-pub to_start_keeps : {A : Type 0} {a : Unchanged} (l : Loop A) → IsAtRest l.deck.mode → Keeps a l → Keeps a (to_start l)
+pub to_start_keeps : {A : Type 0} {a : Unchanged} (l : Loop A) → IsAtRest l.deck.mode → Keeps a l →
+    Keeps a (to_start l)
 to_start_keeps l before h =
     let here : IsResting l.deck.mode = rests l.deck.mode before
-    in rests_again l.deck.mode (start_place l.deck.backward (length_of l)) l.deck.backward here here (start_inside l.deck.backward l.deck.pos (length_of l) (resting_inside here h)) h
+    in rests_again l.deck.mode (start_place l.deck.backward (length_of l)) l.deck.backward here here
+    (start_inside l.deck.backward l.deck.pos (length_of l) (resting_inside here h)) h
 
-pub whole_started : (s s' : Parts) → IsWhole s → IsAtRest s.deck.mode → loop_of s' ≡ to_start (loop_of s) → s'.layers ≡ s.layers → s'.pinned ≡ s.pinned → IsWhole s'
+pub whole_started : (s s' : Parts) → IsWhole s → IsAtRest s.deck.mode →
+    loop_of s' ≡ to_start (loop_of s) → s'.layers ≡ s.layers → s'.pinned ≡ s.pinned → IsWhole s'
 whole_started s s' w before is layers pinned =
-    keeps_mode s s' (to_start (loop_of s)) w is (to_start_keeps (loop_of s) before (own_keeps s w)) pinned (ap (λ (h : Held). h.writing) layers) refl
+    keeps_mode s s' (to_start (loop_of s)) w is (to_start_keeps (loop_of s) before (own_keeps s w))
+    pinned (ap (λ (h : Held). h.writing) layers) refl
 
 -- where no run goes on, the direction may change in a mode that writes over its list
-turn_in : {A : Type 0} (mode : Mode) (layers redo : List (Layer A)) (pos : ℕ) (backward other : Bool) (run : Option LastWrite) → MayTurn mode run →
-    InMode mode layers redo pos backward → IsRun mode run pos backward → InMode mode layers redo pos other × IsRun mode run pos other
+turn_in : {A : Type 0} (mode : Mode) (layers redo : List (Layer A)) (pos : ℕ)
+    (backward other : Bool) (run : Option LastWrite) → MayTurn mode run →
+    InMode mode layers redo pos backward → IsRun mode run pos backward →
+    InMode mode layers redo pos other × IsRun mode run pos other
 turn_in Playing layers redo pos backward other run may h r = (h, r)
 turn_in Muted layers redo pos backward other run may h r = (h, r)
 turn_in OneShot layers redo pos backward other run may h r = (h, r)
 turn_in Paused layers redo pos backward other run may h r = (h, r)
-turn_in Overdubbing layers redo pos backward other run may h r = (h, subst (λ w. IsRun Overdubbing w pos other) (sym may) tt)
-turn_in Replacing layers redo pos backward other run may h r = (h, subst (λ w. IsRun Replacing w pos other) (sym may) tt)
-turn_in Substituting layers redo pos backward other run may h r = (h, subst (λ w. IsRun Substituting w pos other) (sym may) tt)
+turn_in Overdubbing layers redo pos backward other run may h r =
+    (h, subst (λ w. IsRun Overdubbing w pos other) (sym may) tt)
+turn_in Replacing layers redo pos backward other run may h r =
+    (h, subst (λ w. IsRun Replacing w pos other) (sym may) tt)
+turn_in Substituting layers redo pos backward other run may h r =
+    (h, subst (λ w. IsRun Substituting w pos other) (sym may) tt)
 turn_in _ layers redo pos backward other run may h r = absurd may
 
-pub turned_keeps : {A : Type 0} {a : Unchanged} (l : Loop A) → MayTurn l.deck.mode l.stack.run → Keeps a l → Keeps a (turned l)
+pub turned_keeps : {A : Type 0} {a : Unchanged} (l : Loop A) → MayTurn l.deck.mode l.stack.run →
+    Keeps a l → Keeps a (turned l)
 turned_keeps l may h =
-    let now = turn_in l.deck.mode l.stack.layers l.stack.redo l.deck.pos l.deck.backward (not l.deck.backward) l.stack.run may h.loop.in_mode h.loop.run
+    let now = turn_in l.deck.mode l.stack.layers l.stack.redo l.deck.pos l.deck.backward
+    (not l.deck.backward) l.stack.run may h.loop.in_mode h.loop.run
     in with_deck (record l.deck { backward = not l.deck.backward }) l.stack.run h now.0 now.1 refl
 
-pub whole_turned : (s s' : Parts) → IsWhole s → MayTurn s.deck.mode s.layers.stack.run → loop_of s' ≡ turned (loop_of s) → s'.layers ≡ s.layers → s'.pinned ≡ s.pinned → IsWhole s'
-whole_turned s s' w may is layers pinned = keeps_mode s s' (turned (loop_of s)) w is (turned_keeps (loop_of s) may (own_keeps s w)) pinned (ap (λ (h : Held). h.writing) layers) refl
+pub whole_turned : (s s' : Parts) → IsWhole s → MayTurn s.deck.mode s.layers.stack.run →
+    loop_of s' ≡ turned (loop_of s) → s'.layers ≡ s.layers → s'.pinned ≡ s.pinned → IsWhole s'
+whole_turned s s' w may is layers pinned = keeps_mode s s' (turned (loop_of s)) w is
+    (turned_keeps (loop_of s) may (own_keeps s w)) pinned (ap (λ (h : Held). h.writing) layers) refl
 
-pub broken_keeps : {A : Type 0} {a : Unchanged} (l : Loop A) → Keeps a l → Keeps a (with_stack (run_broken l.stack) l)
-broken_keeps l h = with_deck l.deck None h h.loop.in_mode (no_run l.deck.mode l.deck.pos l.deck.backward) refl
+pub broken_keeps : {A : Type 0} {a : Unchanged} (l : Loop A) → Keeps a l →
+    Keeps a (with_stack (run_broken l.stack) l)
+broken_keeps l h =
+    with_deck l.deck None h h.loop.in_mode (no_run l.deck.mode l.deck.pos l.deck.backward) refl
 
-pub whole_broken : (s s' : Parts) → IsWhole s → is_writing s.deck.mode ≡ true → loop_of s' ≡ with_stack (run_broken (loop_of s).stack) (loop_of s) → s'.layers.writing ≡ true → s'.pinned ≡ s.pinned → IsWhole s'
+pub whole_broken : (s s' : Parts) → IsWhole s → is_writing s.deck.mode ≡ true →
+    loop_of s' ≡ with_stack (run_broken (loop_of s).stack) (loop_of s) → s'.layers.writing ≡ true →
+    s'.pinned ≡ s.pinned → IsWhole s'
 whole_broken s s' w writing is held pinned =
-    keeps_mode s s' (with_stack (run_broken (loop_of s).stack) (loop_of s)) w is (broken_keeps (loop_of s) (own_keeps s w)) pinned (held ∙ sym (w.writing ∙ writing)) refl
+    keeps_mode s s' (with_stack (run_broken (loop_of s).stack) (loop_of s)) w is
+    (broken_keeps (loop_of s) (own_keeps s w)) pinned (held ∙ sym (w.writing ∙ writing)) refl

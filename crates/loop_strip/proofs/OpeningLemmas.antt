@@ -37,113 +37,193 @@ abbrev pub layers_of : Parts → Held → Parts
 layers_of s h = record s { layers = h }
 
 -- the answer for a loop of addresses
-pub answered : (s : Parts) (p : PoolOf) (empty : Bool) (answer : Started) → Owns (strip_of s) p → answer ≡ opening (reach s.layers p) empty (seen_layers s.layers p) →
+pub answered : (s : Parts) (p : PoolOf) (empty : Bool) (answer : Started) → Owns (strip_of s) p →
+    answer ≡ opening (reach s.layers p) empty (seen_layers s.layers p) →
     answer ≡ opening (reach_in (strip_of s) p) empty (loop_of s).stack
-answered s p empty answer o is = is ∙ opening-mapped (at s.layers.tape p) (reach s.layers p) empty s.layers.stack ∙ ap (λ r. opening r empty s.layers.stack) (reaches s p o)
+answered s p empty answer o is = is ∙ opening-mapped (at s.layers.tape p) (reach s.layers p) empty
+    s.layers.stack ∙ ap (λ r. opening r empty s.layers.stack) (reaches s p o)
 
 -- the loop of addresses behind an opening for `record`
-pub recorded : (s : Parts) (p : PoolOf) (answer : Started) (l : Loop ℕ) → Owns (strip_of s) p → answer ≡ opening (reach s.layers p) true (seen_layers s.layers p) →
+pub recorded : (s : Parts) (p : PoolOf) (answer : Started) (l : Loop ℕ) → Owns (strip_of s) p →
+    answer ≡ opening (reach s.layers p) true (seen_layers s.layers p) →
     l ≡ records answer (loop_of s) → l ≡ opens_record (reach_in (strip_of s) p) (loop_of s)
-recorded s p answer l o answers is = is ∙ ap (λ a. records a (loop_of s)) (answered s p true answer o answers)
+recorded s p answer l o answers is =
+    is ∙ ap (λ a. records a (loop_of s)) (answered s p true answer o answers)
 
 -- an opened stack with its frames
-opened_seen : (empty : Bool) (s s' : Parts) (p p' : PoolOf) → Opens empty s.layers s'.layers p p' → stack_map (at s'.layers.tape p') (opened empty s.layers.stack) ≡ opened empty (stack_map (at s.layers.tape p) s.layers.stack)
+opened_seen : (empty : Bool) (s s' : Parts) (p p' : PoolOf) → Opens empty s.layers s'.layers p p' →
+    stack_map (at s'.layers.tape p') (opened empty s.layers.stack) ≡ opened empty
+    (stack_map (at s.layers.tape p) s.layers.stack)
 opened_seen empty s s' p p' h = ap (stack_map (at s'.layers.tape p')) (sym h.stack) ∙ h.seen
 
 -- what an opening for `record` did
-pub did_record_opened : (s s' : Parts) (p p' : PoolOf) → Owns (strip_of s) p → Ok ≡ opening (reach s.layers p) true (seen_layers s.layers p) → Opens true s.layers s'.layers p p' →
-    IsShared s'.layers → loop_of s' ≡ records Ok (loop_of s) → Did opens_record (strip_of s) (strip_of s') p p'
+pub did_record_opened : (s s' : Parts) (p p' : PoolOf) → Owns (strip_of s) p →
+    Ok ≡ opening (reach s.layers p) true (seen_layers s.layers p) →
+    Opens true s.layers s'.layers p p' →
+    IsShared s'.layers → loop_of s' ≡ records Ok (loop_of s) →
+    Did opens_record (strip_of s) (strip_of s') p p'
 did_record_opened s s' p p' o answers h shared is =
     let f = at s.layers.tape p
-    in let to : loop_map (at s'.layers.tape p') (records Ok (loop_of s)) ≡ records Ok (loop_map f (loop_of s)) =
-    ap (λ (u : Stack Sound). let l : Loop Sound = record { deck = record (loop_of s).deck { mode = Recording; pos = 0; backward = false }; controls = (loop_of s).controls; refused = (loop_of s).refused; stack = u } in l) (opened_seen true s s' p p' h)
-    in let answer : Ok ≡ opening (reach_in (strip_of s) p) true (stack_map f s.layers.stack) = answers ∙ ap (λ r. opening r true (stack_map f s.layers.stack)) (reaches s p o)
+    in let to : loop_map (at s'.layers.tape p') (records Ok (loop_of s)) ≡ records Ok
+    (loop_map f (loop_of s)) =
+    ap (λ (u : Stack Sound). let l : Loop Sound =
+    record {
+      deck = record (loop_of s).deck { mode = Recording; pos = 0; backward = false };
+      controls = (loop_of s).controls;
+      refused = (loop_of s).refused;
+      stack = u;
+    } in l)
+    (opened_seen true s s' p p' h)
+    in let answer : Ok ≡ opening (reach_in (strip_of s) p) true (stack_map f s.layers.stack) =
+    answers ∙ ap (λ r. opening r true (stack_map f s.layers.stack)) (reaches s p o)
     in did_kept opens_record s s' p p' o h.keeps shared
-    (seen-is (strip_of s') p' ∙ ap (loop_map (at s'.layers.tape p')) is ∙ to ∙ ap (λ a. records a (loop_map f (loop_of s))) answer ∙ ap (opens_record (reach_in (strip_of s) p)) (sym (seen-is (strip_of s) p)))
+    (seen-is (strip_of s') p' ∙ ap (loop_map (at s'.layers.tape p')) is ∙ to
+    ∙ ap (λ a. records a (loop_map f (loop_of s))) answer
+    ∙ ap (opens_record (reach_in (strip_of s) p)) (sym (seen-is (strip_of s) p)))
 
 -- what a refused opening did, by what its answer does to the loop
 pub did_refused :
-    (act : Started → Loop Sound → Loop Sound) (addressed : Started → Loop ℕ → Loop ℕ) (empty : Bool) (s s1 s' : Parts) (p p' : PoolOf) (answer : Started) →
-    ((f : ℕ → Sound) (a : Started) (l : Loop ℕ) → loop_map f (addressed a l) ≡ act a (loop_map f l)) → Owns (strip_of s) p →
-    answer ≡ opening (reach s.layers p) empty (seen_layers s.layers p) → Same s.layers s1.layers p p' → s'.layers ≡ s1.layers → loop_of s' ≡ addressed answer (loop_of s) →
+    (act : Started → Loop Sound → Loop Sound) (addressed : Started → Loop ℕ → Loop ℕ) (empty : Bool)
+    (s s1 s' : Parts) (p p' : PoolOf) (answer : Started) →
+    ((f : ℕ → Sound) (a : Started) (l : Loop ℕ) →
+    loop_map f (addressed a l) ≡ act a (loop_map f l)) → Owns (strip_of s) p →
+    answer ≡ opening (reach s.layers p) empty (seen_layers s.layers p) →
+    Same s.layers s1.layers p p' → s'.layers ≡ s1.layers →
+    loop_of s' ≡ addressed answer (loop_of s) →
     Did (λ reach l. act (opening reach empty l.stack) l) (strip_of s) (strip_of s') p p'
 did_refused act addressed empty s s1 s' p p' answer natural o answers same kept is =
     let layers : s'.layers ≡ s.layers = kept ∙ same.held
     in let owns' : Owns (strip_of s') p = record {
       tape = subst (λ (h : Held). OwnsTape h.tape p) (sym layers) o.tape;
       whole = subst (λ (h : Held). IsWholeTape h.tape) (sym layers) o.whole;
-      length = ap (λ (h : Held). h.stack.tape) layers ∙ o.length ∙ sym (ap (λ (h : Held). h.tape.len) layers);
+      length = ap (λ (h : Held). h.stack.tape) layers ∙ o.length
+          ∙ sym (ap (λ (h : Held). h.tape.len) layers);
       low = subst (λ (h : Held). StackBelow h.tape.len h.stack) (sym layers) o.low;
     }
-    in subst (λ (q : PoolOf). Did (λ reach l. act (opening reach empty l.stack) l) (strip_of s) (strip_of s') p q) (sym same.pool)
-    (did_owned (λ reach l. act (opening reach empty l.stack) l) (λ reach l. addressed (opening reach empty l.stack) l) s s' p o owns' (ap (λ (h : Held). h.tape) layers)
-    (λ f reach l. natural f (opening reach empty l.stack) l ∙ ap (λ a. act a (loop_map f l)) (sym (opening-mapped f reach empty l.stack)))
+    in subst (λ (q : PoolOf). Did (λ reach l. act (opening reach empty l.stack) l) (strip_of s)
+    (strip_of s') p q) (sym same.pool)
+    (did_owned (λ reach l. act (opening reach empty l.stack) l)
+    (λ reach l. addressed (opening reach empty l.stack) l) s s' p o owns'
+    (ap (λ (h : Held). h.tape) layers)
+    (λ f reach l. natural f (opening reach empty l.stack) l
+    ∙ ap (λ a. act a (loop_map f l)) (sym (opening-mapped f reach empty l.stack)))
     (is ∙ ap (λ a. addressed a (loop_of s)) (answered s p empty answer o answers)))
 
 -- the loop of addresses behind a refusal
-pub refused_as : (addressed : Started → Loop ℕ → Loop ℕ) (empty : Bool) (s s1 s' : Parts) (p p' : PoolOf) (answer : Started) → Owns (strip_of s) p →
-    answer ≡ opening (reach s.layers p) empty (seen_layers s.layers p) → loop_of s' ≡ addressed answer (loop_of s) → loop_of s' ≡ addressed (opening (reach_in (strip_of s) p) empty (loop_of s).stack) (loop_of s)
-refused_as addressed empty s s1 s' p p' answer o answers is = is ∙ ap (λ a. addressed a (loop_of s)) (answered s p empty answer o answers)
+pub refused_as : (addressed : Started → Loop ℕ → Loop ℕ) (empty : Bool) (s s1 s' : Parts)
+    (p p' : PoolOf) (answer : Started) → Owns (strip_of s) p →
+    answer ≡ opening (reach s.layers p) empty (seen_layers s.layers p) →
+    loop_of s' ≡ addressed answer (loop_of s) →
+    loop_of s' ≡ addressed (opening (reach_in (strip_of s) p) empty (loop_of s).stack) (loop_of s)
+refused_as addressed empty s s1 s' p p' answer o answers is =
+    is ∙ ap (λ a. addressed a (loop_of s)) (answered s p empty answer o answers)
 
 -- what always holds lasts
-record_closed : (s : Parts) → IsWhole s → is_writing s.deck.mode ≡ false → AreClosed s.layers.stack.layers
-record_closed s w quiet = closed_layers s.deck.mode s.layers.stack.layers s.layers.stack.redo s.deck.pos s.deck.backward quiet w.loop.in_mode
+record_closed : (s : Parts) → IsWhole s → is_writing s.deck.mode ≡ false →
+    AreClosed s.layers.stack.layers
+record_closed s w quiet = closed_layers s.deck.mode s.layers.stack.layers s.layers.stack.redo
+    s.deck.pos s.deck.backward quiet w.loop.in_mode
 
-pub whole_recorded : (s s' : Parts) (p : PoolOf) → Owns (strip_of s) p → IsWhole s → is_writing s.deck.mode ≡ false → loop_of s' ≡ opens_record (reach_in (strip_of s) p) (loop_of s) → s'.layers.writing ≡ is_writing s'.deck.mode → s'.pinned ≡ s.pinned → IsWhole s'
+pub whole_recorded : (s s' : Parts) (p : PoolOf) → Owns (strip_of s) p → IsWhole s →
+    is_writing s.deck.mode ≡ false → loop_of s' ≡ opens_record (reach_in (strip_of s) p)
+    (loop_of s) → s'.layers.writing ≡ is_writing s'.deck.mode → s'.pinned ≡ s.pinned → IsWhole s'
 whole_recorded s s' p o w quiet is writing pinned =
-    whole_after (chunks_of s.layers.stack.tape) s s' w (kept_as _ s s' _ is (records_keeps (reach_in (strip_of s) p) (own_keeps s w) (record_closed s w quiet))) pinned writing
+    whole_after (chunks_of s.layers.stack.tape) s s' w
+    (kept_as _ s s' _ is
+    (records_keeps (reach_in (strip_of s) p) (own_keeps s w) (record_closed s w quiet))) pinned
+    writing
 
-playable_of : (s : Parts) → IsWhole s → IsAtRest s.deck.mode → ArePlayable s.layers.stack.layers s.deck.pos
-playable_of s w rest = (playable s.deck.mode s.layers.stack.layers s.layers.stack.redo s.deck.pos s.deck.backward (rests s.deck.mode rest) w.loop.in_mode).0
+playable_of : (s : Parts) → IsWhole s → IsAtRest s.deck.mode →
+    ArePlayable s.layers.stack.layers s.deck.pos
+playable_of s w rest =
+    (playable s.deck.mode s.layers.stack.layers s.layers.stack.redo s.deck.pos s.deck.backward
+    (rests s.deck.mode rest) w.loop.in_mode).0
 
-pub whole_layered : (mode : Mode) (s s' : Parts) (p : PoolOf) → Owns (strip_of s) p → IsWhole s → IsAtRest s.deck.mode → IsLayering mode s.deck.backward → loop_of s' ≡ starts mode (reach_in (strip_of s) p) (loop_of s) → s'.layers.writing ≡ is_writing s'.deck.mode → s'.pinned ≡ s.pinned → IsWhole s'
+pub whole_layered : (mode : Mode) (s s' : Parts) (p : PoolOf) → Owns (strip_of s) p → IsWhole s →
+    IsAtRest s.deck.mode → IsLayering mode s.deck.backward →
+    loop_of s' ≡ starts mode (reach_in (strip_of s) p) (loop_of s) →
+    s'.layers.writing ≡ is_writing s'.deck.mode → s'.pinned ≡ s.pinned → IsWhole s'
 whole_layered mode s s' p o w rest way is writing pinned =
-    whole_after (chunks_of s.layers.stack.tape) s s' w (kept_as _ s s' _ is (starts_keeps (reach_in (strip_of s) p) mode way (own_keeps s w) (playable_of s w rest))) pinned writing
+    whole_after (chunks_of s.layers.stack.tape) s s' w
+    (kept_as _ s s' _ is (starts_keeps (reach_in (strip_of s) p) mode way (own_keeps s w)
+    (playable_of s w rest))) pinned writing
 
 -- what an opening of a copy did
-pub did_layer_opened : (mode : Mode) (s s' : Parts) (p p' : PoolOf) → Owns (strip_of s) p → Ok ≡ opening (reach s.layers p) false (seen_layers s.layers p) → Opens false s.layers s'.layers p p' →
-    IsShared s'.layers → loop_of s' ≡ layers_on Ok mode (loop_of s) → Did (starts mode) (strip_of s) (strip_of s') p p'
+pub did_layer_opened : (mode : Mode) (s s' : Parts) (p p' : PoolOf) → Owns (strip_of s) p →
+    Ok ≡ opening (reach s.layers p) false (seen_layers s.layers p) →
+    Opens false s.layers s'.layers p p' →
+    IsShared s'.layers → loop_of s' ≡ layers_on Ok mode (loop_of s) →
+    Did (starts mode) (strip_of s) (strip_of s') p p'
 did_layer_opened mode s s' p p' o answers h shared is =
     let f = at s.layers.tape p
-    in let to : loop_map (at s'.layers.tape p') (layers_on Ok mode (loop_of s)) ≡ layers_on Ok mode (loop_map f (loop_of s)) =
-    ap (λ (u : Stack Sound). let l : Loop Sound = record { deck = record (loop_of s).deck { mode = mode }; controls = (loop_of s).controls; refused = (loop_of s).refused; stack = u } in l) (opened_seen false s s' p p' h)
-    in let answer : Ok ≡ opening (reach_in (strip_of s) p) false (stack_map f s.layers.stack) = answers ∙ ap (λ r. opening r false (stack_map f s.layers.stack)) (reaches s p o)
+    in let to : loop_map (at s'.layers.tape p') (layers_on Ok mode (loop_of s)) ≡ layers_on Ok mode
+    (loop_map f (loop_of s)) =
+    ap (λ (u : Stack Sound). let l : Loop Sound =
+    record {
+      deck = record (loop_of s).deck { mode = mode };
+      controls = (loop_of s).controls;
+      refused = (loop_of s).refused;
+      stack = u;
+    } in l) (opened_seen false s s' p p' h)
+    in let answer : Ok ≡ opening (reach_in (strip_of s) p) false (stack_map f s.layers.stack) =
+    answers ∙ ap (λ r. opening r false (stack_map f s.layers.stack)) (reaches s p o)
     in did_kept (starts mode) s s' p p' o h.keeps shared
-    (seen-is (strip_of s') p' ∙ ap (loop_map (at s'.layers.tape p')) is ∙ to ∙ ap (λ a. layers_on a mode (loop_map f (loop_of s))) answer ∙ ap (starts mode (reach_in (strip_of s) p)) (sym (seen-is (strip_of s) p)))
+    (seen-is (strip_of s') p' ∙ ap (loop_map (at s'.layers.tape p')) is ∙ to
+    ∙ ap (λ a. layers_on a mode (loop_map f (loop_of s))) answer
+    ∙ ap (starts mode (reach_in (strip_of s) p)) (sym (seen-is (strip_of s) p)))
 
 -- the loop of addresses behind an opening
-pub opened_as : (addressed : Started → Loop ℕ → Loop ℕ) (empty : Bool) (s : Parts) (p : PoolOf) (l : Loop ℕ) → Owns (strip_of s) p →
-    Ok ≡ opening (reach s.layers p) empty (seen_layers s.layers p) → l ≡ addressed Ok (loop_of s) → l ≡ addressed (opening (reach_in (strip_of s) p) empty (loop_of s).stack) (loop_of s)
-opened_as addressed empty s p l o answers is = is ∙ ap (λ a. addressed a (loop_of s)) (answered s p empty Ok o answers)
+pub opened_as : (addressed : Started → Loop ℕ → Loop ℕ) (empty : Bool) (s : Parts) (p : PoolOf)
+    (l : Loop ℕ) → Owns (strip_of s) p →
+    Ok ≡ opening (reach s.layers p) empty (seen_layers s.layers p) → l ≡ addressed Ok (loop_of s) →
+    l ≡ addressed (opening (reach_in (strip_of s) p) empty (loop_of s).stack) (loop_of s)
+opened_as addressed empty s p l o answers is =
+    is ∙ ap (λ a. addressed a (loop_of s)) (answered s p empty Ok o answers)
 
 -- waiting for the threshold
-pub waits_or : {A : Type 0} (reach : ℕ) (l : Loop A) (waits : Bool) → nat_lt 0 l.controls.rec_thresh ≡ waits → starts_record reach l ≡ cond waits (in_mode WaitStart l) (opens_record reach l)
+pub waits_or : {A : Type 0} (reach : ℕ) (l : Loop A) (waits : Bool) →
+    nat_lt 0 l.controls.rec_thresh ≡ waits →
+    starts_record reach l ≡ cond waits (in_mode WaitStart l) (opens_record reach l)
 waits_or reach l waits is = ap (λ b. cond b (in_mode WaitStart l) (opens_record reach l)) is
 
 -- all of a refused opening, by what its answer does to the loop
-pub record IsRefused (act : ℕ → Loop Sound → Loop Sound) (addressed : ℕ → Loop ℕ → Loop ℕ) (s s' : Parts) (p p' : PoolOf) : Type 0 where
+pub record IsRefused (act : ℕ → Loop Sound → Loop Sound) (addressed : ℕ → Loop ℕ → Loop ℕ)
+    (s s' : Parts) (p p' : PoolOf) : Type 0 where
   pub ok : loop_of s' ≡ addressed (reach_in (strip_of s) p) (loop_of s)
   pub did : Did act (strip_of s) (strip_of s') p p'
 
-pub refused_record : (s s' : Parts) (h : Held) (p p' : PoolOf) (answer : Started) → Owns (strip_of s) p → answer ≡ opening (reach s.layers p) true (seen_layers s.layers p) →
-    Same s.layers h p p' → s'.layers ≡ h → loop_of s' ≡ refused_once (loop_of (layers_of s h)) → refused_once (loop_of s) ≡ records answer (loop_of s) → IsRefused opens_record opens_record s s' p p'
+pub refused_record : (s s' : Parts) (h : Held) (p p' : PoolOf) (answer : Started) →
+    Owns (strip_of s) p → answer ≡ opening (reach s.layers p) true (seen_layers s.layers p) →
+    Same s.layers h p p' → s'.layers ≡ h → loop_of s' ≡ refused_once (loop_of (layers_of s h)) →
+    refused_once (loop_of s) ≡ records answer (loop_of s) →
+    IsRefused opens_record opens_record s s' p p'
 refused_record s s' h p p' answer o answers same layers is counts =
-    let to : loop_of s' ≡ records answer (loop_of s) = is ∙ ap (λ (g : Held). refused_once (loop_of (layers_of s g))) same.held ∙ counts
+    let to : loop_of s' ≡ records answer (loop_of s) =
+    is ∙ ap (λ (g : Held). refused_once (loop_of (layers_of s g))) same.held ∙ counts
     in record {
       ok = recorded s p answer (loop_of s') o answers to;
-      did = did_refused (λ a l. records a l) (λ a l. records a l) true s (layers_of s h) s' p p' answer (λ f a l. records-mapped f a l) o answers same layers to;
+      did = did_refused (λ a l. records a l) (λ a l. records a l) true s (layers_of s h) s' p p'
+          answer (λ f a l. records-mapped f a l) o answers same layers to;
     }
 
-pub refused_layer : (mode : Mode) (s s' : Parts) (h : Held) (p p' : PoolOf) (answer : Started) → Owns (strip_of s) p → answer ≡ opening (reach s.layers p) false (seen_layers s.layers p) →
-    Same s.layers h p p' → s'.layers ≡ h → loop_of s' ≡ refused_once (loop_of (layers_of s h)) → refused_once (loop_of s) ≡ layers_on answer mode (loop_of s) → IsRefused (starts mode) (starts mode) s s' p p'
+pub refused_layer : (mode : Mode) (s s' : Parts) (h : Held) (p p' : PoolOf) (answer : Started) →
+    Owns (strip_of s) p → answer ≡ opening (reach s.layers p) false (seen_layers s.layers p) →
+    Same s.layers h p p' → s'.layers ≡ h → loop_of s' ≡ refused_once (loop_of (layers_of s h)) →
+    refused_once (loop_of s) ≡ layers_on answer mode (loop_of s) →
+    IsRefused (starts mode) (starts mode) s s' p p'
 refused_layer mode s s' h p p' answer o answers same layers is counts =
-    let to : loop_of s' ≡ layers_on answer mode (loop_of s) = is ∙ ap (λ (g : Held). refused_once (loop_of (layers_of s g))) same.held ∙ counts
+    let to : loop_of s' ≡ layers_on answer mode (loop_of s) =
+    is ∙ ap (λ (g : Held). refused_once (loop_of (layers_of s g))) same.held ∙ counts
     in record {
-      ok = refused_as (λ a l. layers_on a mode l) false s (layers_of s h) s' p p' answer o answers to;
-      did = did_refused (λ a l. layers_on a mode l) (λ a l. layers_on a mode l) false s (layers_of s h) s' p p' answer (λ f a l. layers_on-mapped f a mode l) o answers same layers to;
+      ok = refused_as (λ a l. layers_on a mode l) false s (layers_of s h) s' p p' answer o answers
+          to;
+      did = did_refused (λ a l. layers_on a mode l) (λ a l. layers_on a mode l) false s
+          (layers_of s h) s' p p' answer (λ f a l. layers_on-mapped f a mode l) o answers same
+          layers to;
     }
 
-layering_writes : (mode : Mode) (backward : Bool) → IsLayering mode backward → is_writing mode ≡ true
+layering_writes : (mode : Mode) (backward : Bool) → IsLayering mode backward →
+    is_writing mode ≡ true
 layering_writes Overdubbing backward way = refl
 layering_writes Replacing backward way = refl
 layering_writes Substituting backward way = refl
@@ -151,12 +231,15 @@ layering_writes Inserting backward way = refl
 layering_writes Multiplying backward way = refl
 layering_writes _ backward way = absurd way
 
-pub opens_writing : (mode : Mode) (backward : Bool) (w : Bool) → IsLayering mode backward → w ≡ true → w ≡ is_writing mode
+pub opens_writing : (mode : Mode) (backward : Bool) (w : Bool) → IsLayering mode backward →
+    w ≡ true → w ≡ is_writing mode
 opens_writing mode backward w way is = is ∙ sym (layering_writes mode backward way)
 
 -- with no threshold `record` opens at once
 pub no_threshold : (s : Parts) (p : PoolOf) → nat_lt 0 s.controls.rec_thresh ≡ false →
-    opens_record (reach_in (strip_of s) p) (seen (strip_of s) p) ≡ starts_record (reach_in (strip_of s) p) (seen (strip_of s) p)
+    opens_record (reach_in (strip_of s) p) (seen (strip_of s) p) ≡ starts_record
+    (reach_in (strip_of s) p) (seen (strip_of s) p)
 no_threshold s p is =
-    ap (λ b. cond b (in_mode WaitStart (seen (strip_of s) p)) (opens_record (reach_in (strip_of s) p) (seen (strip_of s) p)))
+    ap (λ b. cond b (in_mode WaitStart (seen (strip_of s) p))
+    (opens_record (reach_in (strip_of s) p) (seen (strip_of s) p)))
     (sym (ap (λ (c : Controls). nat_lt 0 c.rec_thresh) (seen_controls (strip_of s) p) ∙ is))

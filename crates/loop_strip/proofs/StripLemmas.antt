@@ -20,40 +20,66 @@ use Rattle.layer_memory.proofs.SeenLemmas.{pinned_list-mapped}
 use Rattle.loop_strip.proofs.DidLemmas.{seen_face, seen_controls}
 use Rattle.loop_strip.proofs.FrameLemmas.{seen_stack}
 
-pub face_at : (s : Parts) (t : StripOf) (p : PoolOf) → strip_of s ≡ t → face_of (loop_of s) ≡ face_of (seen t p)
+pub face_at : (s : Parts) (t : StripOf) (p : PoolOf) → strip_of s ≡ t →
+    face_of (loop_of s) ≡ face_of (seen t p)
 face_at s t p is = sym (seen_face (strip_of s) p) ∙ ap (λ (u : StripOf). face_of (seen u p)) is
 
-pub controls_at : (s : Parts) (t : StripOf) (p : PoolOf) → strip_of s ≡ t → (loop_of s).controls ≡ (seen t p).controls
-controls_at s t p is = sym (seen_controls (strip_of s) p) ∙ ap (λ (u : StripOf). (seen u p).controls) is
+pub controls_at : (s : Parts) (t : StripOf) (p : PoolOf) → strip_of s ≡ t →
+    (loop_of s).controls ≡ (seen t p).controls
+controls_at s t p is =
+    sym (seen_controls (strip_of s) p) ∙ ap (λ (u : StripOf). (seen u p).controls) is
 
-pub pinned_at : (s : Parts) (t : StripOf) (p : PoolOf) → strip_of s ≡ t → pinned_list (seen_layers s.layers p).pin ≡ pinned_list (seen t p).stack.pin
-pinned_at s t p is = ap (λ (u : Stack Sound). pinned_list u.pin) (sym (seen_stack s p)) ∙ ap (λ (u : StripOf). pinned_list (seen u p).stack.pin) is
+pub pinned_at : (s : Parts) (t : StripOf) (p : PoolOf) → strip_of s ≡ t →
+    pinned_list (seen_layers s.layers p).pin ≡ pinned_list (seen t p).stack.pin
+pinned_at s t p is = ap (λ (u : Stack Sound). pinned_list u.pin)
+    (sym (seen_stack s p)) ∙ ap (λ (u : StripOf). pinned_list (seen u p).stack.pin) is
 
-pub told_at : (control : Control) (free : ℕ) (s : Parts) (t : StripOf) (p : PoolOf) → strip_of s ≡ t → free ≡ free_in p →
-    reply_value (pos (loop_value control free (loop_of s).controls (face_of (loop_of s)))) ≡ reply_value (pos (loop_value control (free_in p) (seen t p).controls (face_of (seen t p))))
+pub told_at : (control : Control) (free : ℕ) (s : Parts) (t : StripOf) (p : PoolOf) →
+    strip_of s ≡ t → free ≡ free_in p →
+    reply_value (pos (loop_value control free (loop_of s).controls (face_of (loop_of s))))
+    ≡ reply_value (pos (loop_value control (free_in p) (seen t p).controls (face_of (seen t p))))
 told_at control free s t p is free_is =
-    ap (λ n. reply_value (pos (loop_value control n (loop_of s).controls (face_of (loop_of s))))) free_is
-    ∙ ap₂ (λ (c : Controls) (f : Face). reply_value (pos (loop_value control (free_in p) c f))) (controls_at s t p is) (face_at s t p is)
+    ap (λ n. reply_value (pos (loop_value control n (loop_of s).controls (face_of (loop_of s)))))
+    free_is
+    ∙ ap₂ (λ (c : Controls) (f : Face). reply_value (pos (loop_value control (free_in p) c f)))
+    (controls_at s t p is) (face_at s t p is)
 
-pub seen_new : (settings : StripSettings) (chunks : ℕ) (t : StripOf) (p : PoolOf) → t ≡ record { loop = first_loop [] settings; tape = record { chunks = []; len = 0; room = chunks } } → seen t p ≡ first_loop [] settings
+pub seen_new : (settings : StripSettings) (chunks : ℕ) (t : StripOf) (p : PoolOf) →
+    t ≡ record {
+      loop = first_loop [] settings;
+      tape =
+          record { chunks = []; len = 0; room = chunks };
+    } → seen t p ≡ first_loop [] settings
 unfolding seen
 seen_new settings chunks t p is = ap (λ (u : StripOf). seen u p) is
 
 -- a save tells what the face and the controls tell
 abbrev settings_by : Face → Controls → StripSettings
-settings_by f c = record { length = f.length; cycle = saved_cycle f.mode f.length f.cycle; feedback = c.feedback; wet = c.wet; round = c.round; quantize = c.quantize; rec_thresh = c.rec_thresh }
+settings_by f c = record {
+  length = f.length;
+  cycle = saved_cycle f.mode f.length f.cycle;
+  feedback = c.feedback;
+  wet = c.wet;
+  round = c.round;
+  quantize = c.quantize;
+  rec_thresh =
+      c.rec_thresh;
+}
 
-pub settings_at : (s : Parts) (t : StripOf) (p : PoolOf) → strip_of s ≡ t → settings_of (loop_of s) ≡ settings_of (seen t p)
+pub settings_at : (s : Parts) (t : StripOf) (p : PoolOf) → strip_of s ≡ t →
+    settings_of (loop_of s) ≡ settings_of (seen t p)
 settings_at s t p is = ap₂ settings_by (face_at s t p is) (controls_at s t p is)
 
 -- the pinned list of addresses is as long as that of frames
-pub pinned_length : (s : Parts) (t : StripOf) (p : PoolOf) → strip_of s ≡ t → length (pinned_list s.layers.stack.pin) ≡ length (pinned_list (seen t p).stack.pin)
+pub pinned_length : (s : Parts) (t : StripOf) (p : PoolOf) → strip_of s ≡ t →
+    length (pinned_list s.layers.stack.pin) ≡ length (pinned_list (seen t p).stack.pin)
 pinned_length s t p is =
     sym (length-map (pinned_list s.layers.stack.pin) (at s.layers.tape p))
     ∙ ap length (sym (pinned_list-mapped (at s.layers.tape p) s.layers.stack.pin))
     ∙ ap length (pinned_at s t p is)
 
-pub saved_within : (k : ℕ) (s : Parts) (t : StripOf) (p : PoolOf) → strip_of s ≡ t → k ≤ length (pinned_list (seen t p).stack.pin) → k ≤ length (pinned_list s.layers.stack.pin)
+pub saved_within : (k : ℕ) (s : Parts) (t : StripOf) (p : PoolOf) → strip_of s ≡ t →
+    k ≤ length (pinned_list (seen t p).stack.pin) → k ≤ length (pinned_list s.layers.stack.pin)
 saved_within k s t p is within = let e = pinned_length s t p is in omega arith
 
 pub ruleset pinned_reads = (saved_within)

@@ -1,6 +1,7 @@
--- For how many frames a loop in a writing mode surely writes all, takes no chunk and stays in its mode: those before the
--- end of the chunk in which its tape ends, with 2 seams for each, with room in the list, where it isn't on its way to a
--- stop and a multiply doesn't come to the end of its list.
+-- For how many frames a loop in a writing mode surely writes all, takes no chunk and stays in its
+-- mode: those before the end of the chunk in which its tape ends, with 2 seams for each, with room
+-- in the list, where it isn't on its way to a stop and a multiply doesn't come to the end of its
+-- list.
 -- "Frames in a row" in docs/rules.md.
 use Rattle.std.specs.Prelude.{◌≡◌, ◌≤◌, ℕ, ◌+◌, ◌*◌, ◌%◌, ⊤, false}
 use Rattle.sl_base.specs.Limits.{chunk_frames, max_list_frames, max_seams}

@@ -9,8 +9,10 @@ use Rattle.loop_strip.specs.Strips.{seen, reach_in, Owns, OthersStay}
 use Rattle.loop_strip.specs.Parts.{loop_of, strip_of, IsWhole}
 use Rattle.loop_strip.specs.Moving.{AreAllowed}
 
-pub record IsCarried (done : ℕ) (moves : List Move) (first now : Parts) (p p' : PoolOf) : Type 0 where
-  pub left : carry_all (reach_in (strip_of first) p) (drop done moves) (seen (strip_of now) p') ≡ carry_all (reach_in (strip_of first) p) moves (seen (strip_of first) p)
+pub record IsCarried (done : ℕ) (moves : List Move) (first now : Parts)
+    (p p' : PoolOf) : Type 0 where
+  pub left : carry_all (reach_in (strip_of first) p) (drop done moves) (seen (strip_of now) p')
+      ≡ carry_all (reach_in (strip_of first) p) moves (seen (strip_of first) p)
   pub owns : Owns (strip_of now) p'
   pub reach : reach_in (strip_of now) p' ≡ reach_in (strip_of first) p
   pub others : OthersStay (strip_of first) (strip_of now) p p'

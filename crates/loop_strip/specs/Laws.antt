@@ -1,5 +1,5 @@
--- What calls on a loop do together: a list was made, and plays from its first place on. An overdub of one turn is the
--- list frame by frame scaled, with what was played on top.
+-- What calls on a loop do together: a list was made, and plays from its first place on. An overdub
+-- of one turn is the list frame by frame scaled, with what was played on top.
 -- "Starting" and "Closing" in docs/rules.md.
 use Rattle.std.specs.Prelude.{◌≡◌, ℕ, List, [], ◌∷◌}
 use Rattle.sl_base.specs.Sounds.{Sound, summed, clamped_sound, scaled_sound}
@@ -16,4 +16,5 @@ pub record IsRecording (xs : List Sound) (l : Loop Sound) : Type 0 where
 abbrev pub overdubbed : ℕ → List Sound → List Sound → List Sound
 overdubbed feedback [] xs = []
 overdubbed feedback (o ∷ os) [] = o ∷ os
-overdubbed feedback (o ∷ os) (x ∷ xs) = clamped_sound (summed (scaled_sound o feedback) x) ∷ overdubbed feedback os xs
+overdubbed feedback (o ∷ os) (x ∷ xs) = clamped_sound (summed (scaled_sound o feedback) x)
+    ∷ overdubbed feedback os xs

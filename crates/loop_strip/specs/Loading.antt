@@ -1,5 +1,5 @@
--- How a loop begins. A new one is Off, of an empty stack, and nothing of it was refused. With a list it is Paused at the
--- first place, and the list is its only layer.
+-- How a loop begins. A new one is Off, of an empty stack, and nothing of it was refused. With a
+-- list it is Paused at the first place, and the list is its only layer.
 -- "The run" in docs/rules.md.
 use Rattle.std.specs.Prelude.{◌≡◌, ℕ, List}
 use Rattle.sl_commands.specs.declared.Mode.TheVariants.{Off, Paused}

@@ -1,6 +1,7 @@
--- When a loop is in a state for a move: closing and rounding want an open layer, another layer is begun where none is
--- open, and in the direction that its verb allows; mode, place and direction change where a list is there and isn't
--- written, the direction also in a mode that writes over its list, where no run goes on.
+-- When a loop is in a state for a move: closing and rounding want an open layer, another layer is
+-- begun where none is open, and in the direction that its verb allows; mode, place and direction
+-- change where a list is there and isn't written, the direction also in a mode that writes over its
+-- list, where no run goes on.
 -- "Verbs" in docs/rules.md.
 use Rattle.std.specs.Prelude.{◌≡◌, ℕ, ⊤, Bool, true, false, List, [], ◌∷◌, Option, None}
 use Rattle.sl_commands.specs.declared.Verb.{Verb}

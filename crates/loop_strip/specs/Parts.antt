@@ -1,5 +1,5 @@
--- What a strip's parts are seen as, and what always holds of them: the loop is one that a run may reach, the layers are
--- open exactly in a writing mode, and the strip knows whether a pin stands.
+-- What a strip's parts are seen as, and what always holds of them: the loop is one that a run may
+-- reach, the layers are open exactly in a writing mode, and the strip knows whether a pin stands.
 -- "States: what always holds" in docs/rules.md.
 use Rattle.std.specs.Prelude.{◌≡◌, ℕ, is_some}
 use Rattle.looper_rules.specs.Loop.{Deck as DeckOf, Controls as ControlsOf, Loop, is_writing}
@@ -11,14 +11,35 @@ use Rattle.loop_strip.specs.declared.deck.Controls.{Controls}
 use Rattle.loop_strip.specs.declared.parts.Parts.{Parts}
 
 abbrev pub deck_of : Deck → DeckOf
-deck_of d = record { mode = d.mode; rounding = d.rounding; pos = d.pos; backward = d.backward; waiting = d.waiting; press = d.press }
+deck_of d = record {
+  mode = d.mode;
+  rounding = d.rounding;
+  pos = d.pos;
+  backward =
+      d.backward;
+  waiting = d.waiting;
+  press = d.press;
+}
 
 abbrev pub controls_of : Controls → ControlsOf
-controls_of c = record { feedback = c.feedback; wet = c.wet; round = c.round; quantize = c.quantize; rec_thresh = c.rec_thresh }
+controls_of c = record {
+  feedback = c.feedback;
+  wet = c.wet;
+  round = c.round;
+  quantize =
+      c.quantize;
+  rec_thresh = c.rec_thresh;
+}
 
 -- the loop over addresses
 abbrev pub loop_of : Parts → Loop ℕ
-loop_of s = record { deck = deck_of s.deck; controls = controls_of s.controls; refused = s.refused; stack = s.layers.stack }
+loop_of s = record {
+  deck = deck_of s.deck;
+  controls = controls_of s.controls;
+  refused =
+      s.refused;
+  stack = s.layers.stack;
+}
 
 -- the strip of these parts
 abbrev pub strip_of : Parts → StripOf

@@ -1,4 +1,5 @@
--- For how many frames a strip is quiet: whatever comes in, and whatever it reaches, those behind the first are.
+-- For how many frames a strip is quiet: whatever comes in, and whatever it reaches, those behind
+-- the first are.
 -- "Frames in a row" in docs/rules.md.
 use Rattle.std.specs.Prelude.{◌≡◌, ℕ, ◌<◌, ⊤, false, List, [], ◌∷◌, length, take, nat_le}
 use Rattle.sl_base.specs.Sounds.{Sound, loudness}
@@ -8,7 +9,8 @@ use Rattle.loop_tape.specs.Pools.{PoolOf}
 use Rattle.loop_strip.specs.Strips.{StripOf, seen}
 
 abbrev pub IsQuietFor : ℕ → StripOf → Type 0
-IsQuietFor n s = (p : PoolOf) (x : Sound) (xs : List Sound) (reach : ℕ) → length xs < n → AreQuiet xs (frame_later x reach (seen s p))
+IsQuietFor n s = (p : PoolOf) (x : Sound) (xs : List Sound) (reach : ℕ) → length xs < n →
+    AreQuiet xs (frame_later x reach (seen s p))
 
 -- for how many of these frames it is
 abbrev pub IsQuietOver : ℕ → List Sound → StripOf → Type 0

@@ -1,5 +1,6 @@
--- A row is some frames, one after another, that a loop writes forward over the cells of its list before the list's border.
--- What is written and what is heard of it comes from the list as it stood before the row.
+-- A row is some frames, one after another, that a loop writes forward over the cells of its list
+-- before the list's border. What is written and what is heard of it comes from the list as it stood
+-- before the row.
 -- "Frames in a row" and "One frame of a loop" in docs/rules.md.
 use Rattle.std.specs.Prelude.{◌≡◌, ◌<◌, ℕ, ◌+◌, ⊤, Bool, false, List, [], ◌∷◌}
 use Rattle.sl_base.specs.Sounds.{Sound}
@@ -17,7 +18,8 @@ WritesOver _ = ⊥
 -- what is written in this mode, with this feedback, over a list from a place on
 abbrev pub row_written : Mode → ℕ → List Sound → ℕ → List Sound → List Sound
 row_written mode feedback list place [] = []
-row_written mode feedback list place (x ∷ xs) = new_frame mode feedback (sound_at list place) x ∷ row_written mode feedback list (place + 1) xs
+row_written mode feedback list place (x ∷ xs) = new_frame mode feedback (sound_at list place) x
+    ∷ row_written mode feedback list (place + 1) xs
 
 -- what is heard in this mode of a list from a place on, for each of these frames
 abbrev pub row_heard : Mode → List Sound → ℕ → List Sound → List Sound

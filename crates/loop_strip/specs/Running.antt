@@ -1,4 +1,5 @@
--- Where a run over frames stands: the frames that are left lead to the loop and to the sounds that the whole run gives.
+-- Where a run over frames stands: the frames that are left lead to the loop and to the sounds that
+-- the whole run gives.
 -- "Frames in a row" in docs/rules.md.
 use Rattle.std.specs.Prelude.{◌≡◌, ℕ, List, take}
 use Rattle.sl_base.specs.Sounds.{Sound}
@@ -8,7 +9,9 @@ use Rattle.loop_strip.specs.declared.parts.Parts.{Parts}
 use Rattle.loop_strip.specs.Strips.{seen, reach_in, Did}
 use Rattle.loop_strip.specs.Parts.{strip_of, IsWhole}
 
-pub record RunsTo (done : ℕ) (xs sounds : List Sound) (first now : Parts) (p p' : PoolOf) : Type 0 where
+pub record RunsTo (done : ℕ) (xs sounds : List Sound) (first now : Parts)
+    (p p' : PoolOf) : Type 0 where
   pub did : Did (loop_over (take done xs)) (strip_of first) (strip_of now) p p'
-  pub heard : take done sounds ≡ loop_heard_over (take done xs) (reach_in (strip_of first) p) (seen (strip_of first) p)
+  pub heard : take done sounds ≡ loop_heard_over (take done xs) (reach_in (strip_of first) p)
+      (seen (strip_of first) p)
   pub whole : IsWhole now

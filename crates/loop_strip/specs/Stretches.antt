@@ -1,6 +1,7 @@
--- A stretch is some frames in a row over which a loop only goes on: in Playing, Muted and OneShot place by place in its
--- direction, before the border of its list; in Off and Paused it stays where it is, and so it does in WaitStart where no
--- frame reaches the threshold. What is heard of it is a part of the list, read in its direction, or silence.
+-- A stretch is some frames in a row over which a loop only goes on: in Playing, Muted and OneShot
+-- place by place in its direction, before the border of its list; in Off and Paused it stays where
+-- it is, and so it does in WaitStart where no frame reaches the threshold. What is heard of it is a
+-- part of the list, read in its direction, or silence.
 -- "Frames in a row" in docs/rules.md.
 use Rattle.std.specs.Prelude.{◌≡◌, ◌≤◌, ◌<◌, ℕ, ◌+◌, ◌-◌, ⊤, Bool, true, false, List, length, take, drop, reverse, replicate}
 use Rattle.sl_base.specs.Sounds.{Sound, silence}

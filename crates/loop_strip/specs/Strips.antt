@@ -1,7 +1,7 @@
--- A strip is one loop over layers that share a tape. Its cells hold addresses of the tape; with the pool, whose chunks the
--- tape has, it is a loop of frames, and that is what the rules speak of.
--- A strip owns the chunks of its tape, and another strip of the same pool owns others. A call on one strip leaves every
--- other strip of the pool as it was.
+-- A strip is one loop over layers that share a tape. Its cells hold addresses of the tape; with the
+-- pool, whose chunks the tape has, it is a loop of frames, and that is what the rules speak of.
+-- A strip owns the chunks of its tape, and another strip of the same pool owns others. A call on
+-- one strip leaves every other strip of the pool as it was.
 -- "The loop" and "Room" in docs/rules.md.
 use Rattle.std.specs.Prelude.{◌≡◌, ℕ, ◌+◌, length}
 use Rattle.sl_base.specs.Sounds.{Sound}
@@ -23,7 +23,13 @@ pub record StripOf : Type 0 where
 
 -- the same loop with other contents
 abbrev pub loop_map : {A B : Type 0} → (A → B) → Loop A → Loop B
-loop_map f l = record { deck = l.deck; controls = l.controls; refused = l.refused; stack = stack_map f l.stack }
+loop_map f l = record {
+  deck = l.deck;
+  controls = l.controls;
+  refused = l.refused;
+  stack =
+      stack_map f l.stack;
+}
 
 -- the loop of frames that a strip is with this pool
 unfoldable pub seen : StripOf → PoolOf → Loop Sound

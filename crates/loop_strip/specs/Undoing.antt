@@ -7,7 +7,8 @@ use Rattle.loop_strip.specs.Parts.{loop_of, IsWhole}
 
 -- so many undos were done, and those that are left lead to the end
 pub record IsUndone (done : ℕ) (first now : Parts) : Type 0 where
-  pub ok : undo_each (drop done (loop_of first).stack.layers) (loop_of now) ≡ undo_all (loop_of first)
+  pub ok : undo_each (drop done (loop_of first).stack.layers) (loop_of now) ≡ undo_all
+      (loop_of first)
   pub tape : now.layers.tape ≡ first.layers.tape
   pub whole : IsWhole now
 

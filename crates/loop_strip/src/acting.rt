@@ -77,8 +77,10 @@ impl Parts {
         requires whole { IsWhole self.old }
         requires owns { Owns (strip_of self.old) pool.old }
         requires allowed { IsAllowed next (loop_of self.old) }
-        ensures ok { loop_of self.new ≡ carry (reach_in (strip_of self.old) pool.old) next (loop_of self.old) }
-        ensures did { Did (λ reach. carry reach next) (strip_of self.old) (strip_of self.new) pool.old pool.new }
+        ensures ok { loop_of self.new ≡ carry (reach_in (strip_of self.old) pool.old) next
+            (loop_of self.old) }
+        ensures did { Did (λ reach. carry reach next) (strip_of self.old) (strip_of self.new)
+            pool.old pool.new }
         ensures whole { IsWhole self.new }
     {
         match next {
@@ -111,7 +113,8 @@ impl Parts {
     fn wait_for(&mut self, pool: &Pool, verb: Option<Verb>)
         requires whole { IsWhole self.old }
         requires owns { Owns (strip_of self.old) pool.now }
-        ensures did { Did (λ reach. with_waiting verb) (strip_of self.old) (strip_of self.new) pool.now pool.now }
+        ensures did { Did (λ reach. with_waiting verb) (strip_of self.old) (strip_of self.new)
+            pool.now pool.now }
         ensures whole { IsWhole self.new }
     {
         self.layers.shared();
@@ -123,7 +126,8 @@ impl Parts {
     fn hold(&mut self, pool: &Pool, press: Option<Held>)
         requires whole { IsWhole self.old }
         requires owns { Owns (strip_of self.old) pool.now }
-        ensures did { Did (λ reach. with_press press) (strip_of self.old) (strip_of self.new) pool.now pool.now }
+        ensures did { Did (λ reach. with_press press) (strip_of self.old) (strip_of self.new)
+            pool.now pool.now }
         ensures whole { IsWhole self.new }
     {
         self.layers.shared();
@@ -141,7 +145,8 @@ impl Parts {
     fn give_as(&mut self, pool: &mut Pool, now: bool, verb: Verb)
         requires whole { IsWhole self.old }
         requires owns { Owns (strip_of self.old) pool.old }
-        ensures did { Did (given_at_once now verb) (strip_of self.old) (strip_of self.new) pool.old pool.new }
+        ensures did { Did (given_at_once now verb) (strip_of self.old) (strip_of self.new) pool.old
+            pool.new }
         ensures whole { IsWhole self.new }
     {
         if now {
@@ -166,7 +171,8 @@ impl Parts {
     fn press(&mut self, pool: &mut Pool, verb: Verb, frame: u64)
         requires whole { IsWhole self.old }
         requires owns { Owns (strip_of self.old) pool.old }
-        ensures did { Did (pressed verb frame) (strip_of self.old) (strip_of self.new) pool.old pool.new }
+        ensures did { Did (pressed verb frame) (strip_of self.old) (strip_of self.new) pool.old
+            pool.new }
         ensures whole { IsWhole self.new }
     {
         self.give_verb(pool, verb);
@@ -177,7 +183,8 @@ impl Parts {
     fn end_press(&mut self, pool: &mut Pool, long: bool, verb: Verb)
         requires whole { IsWhole self.old }
         requires owns { Owns (strip_of self.old) pool.old }
-        ensures did { Did (released_long long verb) (strip_of self.old) (strip_of self.new) pool.old pool.new }
+        ensures did { Did (released_long long verb) (strip_of self.old) (strip_of self.new) pool.old
+            pool.new }
         ensures whole { IsWhole self.new }
     {
         self.hold(pool, None);
@@ -188,7 +195,8 @@ impl Parts {
 
     /// The press was long, and the mode is that of the verb.
     fn was_long(&self, verb: Verb, frame: u64, long_press: u32) -> bool
-        ensures { result ≡ (is_long frame long_press self.now.deck.press && is_mode_of verb self.now.deck.mode) }
+        ensures { result ≡ (is_long frame long_press self.now.deck.press
+            && is_mode_of verb self.now.deck.mode) }
     {
         is_long(frame, long_press, self.deck.press) && is_mode_of(verb, self.deck.mode)
     }
@@ -197,7 +205,8 @@ impl Parts {
     fn release_as(&mut self, pool: &mut Pool, held: bool, long: bool, verb: Verb)
         requires whole { IsWhole self.old }
         requires owns { Owns (strip_of self.old) pool.old }
-        ensures did { Did (released_as held long verb) (strip_of self.old) (strip_of self.new) pool.old pool.new }
+        ensures did { Did (released_as held long verb) (strip_of self.old) (strip_of self.new)
+            pool.old pool.new }
         ensures whole { IsWhole self.new }
     {
         if held {
@@ -209,7 +218,8 @@ impl Parts {
     fn release(&mut self, pool: &mut Pool, verb: Verb, frame: u64, long_press: u32)
         requires whole { IsWhole self.old }
         requires owns { Owns (strip_of self.old) pool.old }
-        ensures did { Did (released verb frame long_press) (strip_of self.old) (strip_of self.new) pool.old pool.new }
+        ensures did { Did (released verb frame long_press) (strip_of self.old) (strip_of self.new)
+            pool.old pool.new }
         ensures whole { IsWhole self.new }
     {
         let held = is_press_of(verb, self.deck.press);
@@ -228,7 +238,8 @@ impl Parts {
     )
         requires whole { IsWhole self.old }
         requires owns { Owns (strip_of self.old) pool.old }
-        ensures did { Did (gives press verb frame long_press) (strip_of self.old) (strip_of self.new) pool.old pool.new }
+        ensures did { Did (gives press verb frame long_press) (strip_of self.old)
+            (strip_of self.new) pool.old pool.new }
         ensures whole { IsWhole self.new }
     {
         match press {
@@ -242,7 +253,8 @@ impl Parts {
     fn act_waiting(&mut self, pool: &mut Pool, waiting: Option<Verb>)
         requires whole { IsWhole self.old }
         requires owns { Owns (strip_of self.old) pool.old }
-        ensures did { Did (waiting_acts_from waiting) (strip_of self.old) (strip_of self.new) pool.old pool.new }
+        ensures did { Did (waiting_acts_from waiting) (strip_of self.old) (strip_of self.new)
+            pool.old pool.new }
         ensures whole { IsWhole self.new }
     {
         match waiting {

@@ -72,7 +72,8 @@ impl Parts {
     fn break_any_run(&mut self)
         requires coupled { self.old.layers.writing ≡ is_writing self.old.deck.mode }
         requires still { is_writing self.old.deck.mode ≡ false → self.old.layers.stack.run ≡ None }
-        ensures ok { loop_of self.new ≡ with_stack (run_broken (loop_of self.old).stack) (loop_of self.old) }
+        ensures ok { loop_of self.new ≡ with_stack (run_broken (loop_of self.old).stack)
+            (loop_of self.old) }
         ensures tape { self.new.layers.tape ≡ self.old.layers.tape }
         ensures pinned { self.new.pinned ≡ self.old.pinned }
         ensures writing { self.new.layers.writing ≡ self.old.layers.writing }
@@ -110,7 +111,9 @@ impl Parts {
         requires place { self.old.deck.pos ≤ max_list_frames }
         requires coupled { self.old.layers.writing ≡ is_writing self.old.deck.mode }
         requires still { is_writing self.old.deck.mode ≡ false → self.old.layers.stack.run ≡ None }
-        ensures ok { loop_of self.new ≡ goes_on (wraps self.old.deck.backward self.old.deck.pos (length_of (loop_of self.old))) (loop_of self.old) }
+        ensures ok { loop_of self.new ≡ goes_on
+            (wraps self.old.deck.backward self.old.deck.pos (length_of (loop_of self.old)))
+            (loop_of self.old) }
         ensures tape { self.new.layers.tape ≡ self.old.layers.tape }
         ensures pinned { self.new.pinned ≡ self.old.pinned }
         ensures writing { self.new.layers.writing ≡ is_writing self.new.deck.mode }

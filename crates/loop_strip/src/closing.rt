@@ -16,7 +16,8 @@ impl Parts {
     /// Keeps the open layer, and goes to a place in another mode.
     fn finish_as(&mut self, mode: Mode, pos: u32)
         requires writing { IsTrue self.old.layers.writing }
-        ensures ok { loop_of self.new ≡ closes_as mode pos (finished None (loop_of self.old).stack) (loop_of self.old) }
+        ensures ok { loop_of self.new ≡ closes_as mode pos (finished None (loop_of self.old).stack)
+            (loop_of self.old) }
         ensures tape { self.new.layers.tape ≡ self.old.layers.tape }
         ensures writing { self.new.layers.writing ≡ false }
         ensures pinned { self.new.pinned ≡ self.old.pinned }
@@ -28,7 +29,8 @@ impl Parts {
     /// Removes the open layer, and goes to the first place in another mode.
     fn drop_as(&mut self, mode: Mode)
         requires writing { IsTrue self.old.layers.writing }
-        ensures ok { loop_of self.new ≡ closes_as mode 0 (dropped (loop_of self.old).stack) (loop_of self.old) }
+        ensures ok { loop_of self.new ≡ closes_as mode 0 (dropped (loop_of self.old).stack)
+            (loop_of self.old) }
         ensures tape { self.new.layers.tape ≡ self.old.layers.tape }
         ensures writing { self.new.layers.writing ≡ false }
         ensures pinned { self.new.pinned ≡ self.old.pinned }
@@ -72,7 +74,8 @@ impl Parts {
     fn cut_to(&mut self, cut: Option<u32>)
         requires writing { IsTrue self.old.layers.writing }
         requires cut { IfSome cut (λ n. n ≤ current_length (loop_of self.old).stack.layers) }
-        ensures ok { loop_of self.new ≡ closed_multiplying (finished cut (loop_of self.old).stack) (loop_of self.old) }
+        ensures ok { loop_of self.new ≡ closed_multiplying (finished cut (loop_of self.old).stack)
+            (loop_of self.old) }
         ensures tape { self.new.layers.tape ≡ self.old.layers.tape }
         ensures writing { self.new.layers.writing ≡ false }
         ensures pinned { self.new.pinned ≡ self.old.pinned }

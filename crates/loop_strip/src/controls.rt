@@ -39,7 +39,8 @@ fn flag(is: bool) -> u32
 impl Controls {
     /// The value of a control, where so many chunks are free, as a reply tells it.
     fn value(&self, control: Control, free: u32, face: &Face) -> i32
-        ensures { result ≡ reply_value (pos (loop_value control free (controls_of self.now) face.now)) }
+        ensures { result ≡ reply_value
+            (pos (loop_value control free (controls_of self.now) face.now)) }
     {
         match control {
             Control::Feedback => told(self.feedback as u32),
@@ -64,7 +65,8 @@ impl Controls {
     /// A control set.
     fn set(&mut self, control: Control, value: i32)
         requires { IsTrue (is_in_range control value 0) }
-        ensures { controls_of self.new ≡ with_control control (unsigned_abs value) (controls_of self.old) }
+        ensures { controls_of self.new ≡ with_control control (unsigned_abs value)
+            (controls_of self.old) }
     {
         match control {
             Control::Feedback => self.feedback = value.unsigned_abs() as u16,
@@ -81,7 +83,8 @@ impl Parts {
     /// The value of a control, as a reply tells it.
     pub(crate) fn value(&self, control: Control, free: u32) -> i32
         requires whole { IsWhole self.now }
-        ensures { result ≡ reply_value (pos (loop_value control free (loop_of self.now).controls (face_of (loop_of self.now)))) }
+        ensures { result ≡ reply_value
+            (pos (loop_value control free (loop_of self.now).controls (face_of (loop_of self.now)))) }
     {
         let face = self.face();
         self.controls.value(control, free, &face)

@@ -10,7 +10,8 @@ ghost use Rattle.loop_strip.specs.Parts.{deck_of, controls_of};
 
 use sl_commands::{Held, Mode, StripSettings, Verb};
 
-/// Mode, place and direction, the verb that waits, and the press. `pos` is the place of the next frame in the list.
+/// Mode, place and direction, the verb that waits, and the press. `pos` is the place of the next
+/// frame in the list.
 #[derive(Clone, Copy)]
 pub(crate) struct Deck {
     pub(crate) mode: Mode,

@@ -82,7 +82,8 @@ impl Parts {
         requires whole { IsWhole self.old }
         requires owns { Owns (strip_of self.old) pool.old }
         requires waits { self.old.deck.mode ≡ WaitStart }
-        ensures did { Did (awake_in WaitStart true) (strip_of self.old) (strip_of self.new) pool.old pool.new }
+        ensures did { Did (awake_in WaitStart true) (strip_of self.old) (strip_of self.new) pool.old
+            pool.new }
         ensures pinned { self.new.pinned ≡ self.old.pinned }
         ensures writing { self.new.layers.writing ≡ is_writing self.new.deck.mode }
     {
@@ -117,7 +118,8 @@ impl Parts {
         requires whole { IsWhole self.old }
         requires owns { Owns (strip_of self.old) pool.old }
         requires is { self.old.deck.mode ≡ mode }
-        ensures did { Did (awake_in mode loud) (strip_of self.old) (strip_of self.new) pool.old pool.new }
+        ensures did { Did (awake_in mode loud) (strip_of self.old) (strip_of self.new) pool.old
+            pool.new }
         ensures pinned { self.new.pinned ≡ self.old.pinned }
         ensures writing { self.new.layers.writing ≡ is_writing self.new.deck.mode }
     {
@@ -136,7 +138,8 @@ impl Parts {
     fn wake(&mut self, pool: &mut Pool, frame: &Frame)
         requires whole { IsWhole self.old }
         requires owns { Owns (strip_of self.old) pool.old }
-        ensures did { Did (awake frame.now) (strip_of self.old) (strip_of self.new) pool.old pool.new }
+        ensures did { Did (awake frame.now) (strip_of self.old) (strip_of self.new) pool.old
+            pool.new }
         ensures pinned { self.new.pinned ≡ self.old.pinned }
         ensures whole { IsWhole self.new }
     {
@@ -163,7 +166,8 @@ impl Parts {
     fn extend(&mut self)
         requires whole { IsWhole self.old }
         requires multiplies { self.old.deck.mode ≡ Multiplying }
-        ensures ok { loop_of self.new ≡ extends (extension_fits (loop_of self.old).stack) (loop_of self.old) }
+        ensures ok { loop_of self.new ≡ extends (extension_fits (loop_of self.old).stack)
+            (loop_of self.old) }
         ensures tape { self.new.layers.tape ≡ self.old.layers.tape }
         ensures pinned { self.new.pinned ≡ self.old.pinned }
         ensures writing { self.new.layers.writing ≡ is_writing self.new.deck.mode }
@@ -177,7 +181,8 @@ impl Parts {
     fn make_ready(&mut self, mode: Mode)
         requires whole { IsWhole self.old }
         requires is { self.old.deck.mode ≡ mode }
-        ensures ok { loop_of self.new ≡ ready_in mode (self.old.deck.pos == length_of (loop_of self.old)) (loop_of self.old) }
+        ensures ok { loop_of self.new ≡ ready_in mode
+            (self.old.deck.pos == length_of (loop_of self.old)) (loop_of self.old) }
         ensures tape { self.new.layers.tape ≡ self.old.layers.tape }
         ensures pinned { self.new.pinned ≡ self.old.pinned }
         ensures writing { self.new.layers.writing ≡ is_writing self.new.deck.mode }
@@ -198,10 +203,12 @@ impl Parts {
     pub(crate) fn prepare(&mut self, pool: &mut Pool, frame: &Frame)
         requires whole { IsWhole self.old }
         requires owns { Owns (strip_of self.old) pool.old }
-        ensures did { Did (ready frame.now) (strip_of self.old) (strip_of self.new) pool.old pool.new }
+        ensures did { Did (ready frame.now) (strip_of self.old) (strip_of self.new) pool.old
+            pool.new }
         ensures pinned { self.new.pinned ≡ self.old.pinned }
         ensures whole { IsWhole self.new }
-        ensures placed { IsPlaced self.new.deck.mode self.new.deck.pos (length_of (loop_of self.new)) }
+        ensures placed { IsPlaced self.new.deck.mode self.new.deck.pos
+            (length_of (loop_of self.new)) }
     {
         self.wake(pool, frame);
         let mode = self.deck.mode;
@@ -216,7 +223,8 @@ impl Parts {
         requires owns { Owns (strip_of self.now) pool.now }
         requires is { self.now.deck.mode ≡ mode }
         requires placed { IsPlaced mode self.now.deck.pos (length_of (loop_of self.now)) }
-        ensures { result ≡ heard_from mode (current_list (seen_layers self.now.layers pool.now).layers) self.now.deck.pos }
+        ensures { result ≡ heard_from mode
+            (current_list (seen_layers self.now.layers pool.now).layers) self.now.deck.pos }
     {
         match mode {
             Mode::Playing => self.layers.read(pool, self.deck.pos),
@@ -246,7 +254,8 @@ impl Parts {
     pub(crate) fn hear(&self, pool: &Pool) -> Frame
         requires whole { IsWhole self.now }
         requires owns { Owns (strip_of self.now) pool.now }
-        requires placed { IsPlaced self.now.deck.mode self.now.deck.pos (length_of (loop_of self.now)) }
+        requires placed { IsPlaced self.now.deck.mode self.now.deck.pos
+            (length_of (loop_of self.now)) }
         ensures { result ≡ heard (seen (strip_of self.now) pool.now) }
     {
         self.hear_in(pool, self.deck.mode)

@@ -25,7 +25,8 @@ impl Parts {
 
     /// Goes into the list that is left, or to Off.
     fn fit(&mut self)
-        ensures ok { loop_of self.new ≡ with_fewer (loop_of self.old).stack.layers (loop_of self.old) }
+        ensures ok { loop_of self.new ≡ with_fewer (loop_of self.old).stack.layers
+            (loop_of self.old) }
         ensures layers { self.new.layers ≡ self.old.layers }
         ensures pinned { self.new.pinned ≡ self.old.pinned }
     {
@@ -98,7 +99,8 @@ impl Parts {
     /// Moves the next redo layer back.
     fn step_on(&mut self)
         requires closed { self.old.layers.writing ≡ false }
-        ensures ok { loop_of self.new ≡ with_more self.old.deck.mode (with_stack (redone (loop_of self.old).stack) (loop_of self.old)) }
+        ensures ok { loop_of self.new ≡ with_more self.old.deck.mode
+            (with_stack (redone (loop_of self.old).stack) (loop_of self.old)) }
         ensures tape { self.new.layers.tape ≡ self.old.layers.tape }
         ensures closed { self.new.layers.writing ≡ false }
         ensures pinned { self.new.pinned ≡ self.old.pinned }

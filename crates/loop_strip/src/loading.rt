@@ -24,7 +24,8 @@ impl Parts {
         requires cycle { 1 ≤ cycle }
         requires cycle_within { cycle ≤ length frames.now }
         requires room { chunks_of (length frames.now) ≤ free_in pool.old }
-        ensures did { Did (loads frames.now cycle) (strip_of self.old) (strip_of self.new) pool.old pool.new }
+        ensures did { Did (loads frames.now cycle) (strip_of self.old) (strip_of self.new) pool.old
+            pool.new }
         ensures whole { IsWhole self.new }
     {
         self.layers.load(pool, frames, cycle);

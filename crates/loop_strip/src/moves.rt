@@ -110,7 +110,8 @@ impl Parts {
     fn break_run(&mut self)
         requires whole { IsWhole self.old }
         requires writing { is_writing self.old.deck.mode ≡ true }
-        ensures ok { loop_of self.new ≡ with_stack (run_broken (loop_of self.old).stack) (loop_of self.old) }
+        ensures ok { loop_of self.new ≡ with_stack (run_broken (loop_of self.old).stack)
+            (loop_of self.old) }
         ensures tape { self.new.layers.tape ≡ self.old.layers.tape }
         ensures whole { IsWhole self.new }
     {

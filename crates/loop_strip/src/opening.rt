@@ -22,7 +22,8 @@ impl Parts {
         requires whole { IsWhole self.old }
         requires owns { Owns (strip_of self.old) pool.old }
         requires closed { is_writing self.old.deck.mode ≡ false }
-        ensures ok { loop_of self.new ≡ opens_record (reach_in (strip_of self.old) pool.old) (loop_of self.old) }
+        ensures ok { loop_of self.new ≡ opens_record (reach_in (strip_of self.old) pool.old)
+            (loop_of self.old) }
         ensures did { Did opens_record (strip_of self.old) (strip_of self.new) pool.old pool.new }
         ensures whole { IsWhole self.new }
     {
@@ -45,7 +46,8 @@ impl Parts {
         requires owns { Owns (strip_of self.old) pool.old }
         requires rests { IsAtRest self.old.deck.mode }
         requires way { IsLayering mode self.old.deck.backward }
-        ensures ok { loop_of self.new ≡ starts mode (reach_in (strip_of self.old) pool.old) (loop_of self.old) }
+        ensures ok { loop_of self.new ≡ starts mode (reach_in (strip_of self.old) pool.old)
+            (loop_of self.old) }
         ensures did { Did (starts mode) (strip_of self.old) (strip_of self.new) pool.old pool.new }
         ensures whole { IsWhole self.new }
     {
@@ -66,7 +68,8 @@ impl Parts {
         requires owns { Owns (strip_of self.old) pool.old }
         requires closed { is_writing self.old.deck.mode ≡ false }
         requires awake { self.old.deck.mode ≡ WaitStart → ⊥ }
-        ensures ok { loop_of self.new ≡ starts_record (reach_in (strip_of self.old) pool.old) (loop_of self.old) }
+        ensures ok { loop_of self.new ≡ starts_record (reach_in (strip_of self.old) pool.old)
+            (loop_of self.old) }
         ensures did { Did starts_record (strip_of self.old) (strip_of self.new) pool.old pool.new }
         ensures whole { IsWhole self.new }
     {
@@ -83,7 +86,8 @@ impl Parts {
         requires whole { IsWhole self.old }
         requires owns { Owns (strip_of self.old) pool.old }
         requires starts { MayStart verb self.old.deck.mode self.old.deck.backward }
-        ensures ok { loop_of self.new ≡ begins verb (reach_in (strip_of self.old) pool.old) (loop_of self.old) }
+        ensures ok { loop_of self.new ≡ begins verb (reach_in (strip_of self.old) pool.old)
+            (loop_of self.old) }
         ensures did { Did (begins verb) (strip_of self.old) (strip_of self.new) pool.old pool.new }
         ensures whole { IsWhole self.new }
     {

@@ -13,7 +13,8 @@ use sl_base::Memory;
 use sl_commands::{Face, StripSettings};
 use std::alloc::Global;
 
-/// A loop over its layers. `refused` is how often something was refused, and `pinned` says whether a pin stands.
+/// A loop over its layers. `refused` is how often something was refused, and `pinned` says whether
+/// a pin stands.
 #[derive(Drop)]
 pub(crate) struct Parts {
     pub(crate) deck: Deck,
@@ -29,7 +30,12 @@ impl Parts {
     pub(crate) fn new(alloc: Global, settings: &StripSettings, chunks: u32) -> Result<Parts, Memory>
         requires settings { IsTrue (is_strip settings.now) }
         requires chunks { chunks ≤ max_chunks }
-        ensures value { IfOk result (λ s. strip_of s ≡ record { loop = first_loop [] settings.now; tape = record { chunks = []; len = 0; room = chunks } }) }
+        ensures value { IfOk result
+            (λ s. strip_of s ≡ record {
+              loop = first_loop [] settings.now;
+              tape =
+                  record { chunks = []; len = 0; room = chunks };
+            }) }
         ensures whole { IfOk result (λ s. IsWhole s) }
     {
         match Layers::new(alloc, chunks) {

@@ -38,7 +38,8 @@ pub(crate) fn soft_frames(input: &[Frame], threshold: u32) -> u32
     most as u32
 }
 
-/// How many frames come before the end of the chunk in which a tape of this length ends, 0 where that chunk is full.
+/// How many frames come before the end of the chunk in which a tape of this length ends, 0 where
+/// that chunk is full.
 fn frames_in_chunk(tape: u32) -> u32
     ensures { 1 ≤ result → IsInChunk result tape }
 {
@@ -47,12 +48,14 @@ fn frames_in_chunk(tape: u32) -> u32
 }
 
 impl Parts {
-    /// How many of so many frames come before a stop, or before a multiply comes to the end of its list.
+    /// How many of so many frames come before a stop, or before a multiply comes to the end of its
+    /// list.
     fn frames_before_end(&self, mode: Mode, length: u32, frames: u32) -> u32
         requires is { self.now.deck.mode ≡ mode }
         requires length { length ≡ length_of (loop_of self.now) }
         ensures within { result ≤ frames }
-        ensures goes_on { 1 ≤ result → GoesOnIn mode result (loop_of self.now).deck (length_of (loop_of self.now)) }
+        ensures goes_on { 1 ≤ result →
+            GoesOnIn mode result (loop_of self.now).deck (length_of (loop_of self.now)) }
     {
         match mode {
             Mode::Multiplying => {

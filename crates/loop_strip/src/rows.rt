@@ -32,7 +32,8 @@ fn mix_row(feedback: u16, heard: &[Frame], input: &[Frame], next: &mut [Frame])
     requires heard { length input.now ≡ length heard.now }
     requires next { length next.old ≡ length input.now }
     ensures length { length next.new ≡ length input.now }
-    ensures value { (k : ℕ) → k < length input.now → get_or next.new k silence ≡ clamped_sound (summed (scaled_sound (get_or heard.now k silence) feedback) (get_or input.now k silence)) }
+    ensures value { (k : ℕ) → k < length input.now → get_or next.new k silence ≡ clamped_sound
+        (summed (scaled_sound (get_or heard.now k silence) feedback) (get_or input.now k silence)) }
 {
     for i in 0..next.len() {
         next[i] = mix(&heard[i], feedback, &input[i]);
@@ -40,7 +41,8 @@ fn mix_row(feedback: u16, heard: &[Frame], input: &[Frame], next: &mut [Frame])
 }
 
 impl Parts {
-    /// How many of these frames are a row for a mode that writes over the list, 0 where the next one is to be taken alone.
+    /// How many of these frames are a row for a mode that writes over the list, 0 where the next
+    /// one is to be taken alone.
     #[tactic(auto, using(crate::proofs::RowLemmas::rows))]
     fn row_over(&self, mode: Mode, input: &[Frame]) -> u32
         requires whole { IsWhole self.now }
@@ -48,7 +50,8 @@ impl Parts {
         requires over { WritesOver mode }
         ensures within { result ≤ length input.now }
         ensures few { result ≤ 256 }
-        ensures row { 1 ≤ result → IsRow mode result self.now.deck.backward self.now.deck.pos (length_of (loop_of self.now)) }
+        ensures row { 1 ≤ result → IsRow mode result self.now.deck.backward self.now.deck.pos
+            (length_of (loop_of self.now)) }
     {
         if self.deck.backward {
             return 0;
@@ -68,7 +71,8 @@ impl Parts {
         requires is { self.now.deck.mode ≡ mode }
         ensures within { result ≤ length input.now }
         ensures few { result ≤ 256 }
-        ensures row { 1 ≤ result → IsRow mode result self.now.deck.backward self.now.deck.pos (length_of (loop_of self.now)) }
+        ensures row { 1 ≤ result → IsRow mode result self.now.deck.backward self.now.deck.pos
+            (length_of (loop_of self.now)) }
     {
         match mode {
             Mode::Overdubbing => self.row_over(mode, input),
@@ -82,9 +86,12 @@ impl Parts {
     #[tactic(auto, using(crate::proofs::RowLemmas::hears))]
     fn hear_row(&self, pool: &Pool, mode: Mode, heard: &mut [Frame])
         requires owns { Owns (strip_of self.now) pool.now }
-        requires row { IsRow mode (length heard.old) self.now.deck.backward self.now.deck.pos (length_of (loop_of self.now)) }
+        requires row { IsRow mode (length heard.old) self.now.deck.backward self.now.deck.pos
+            (length_of (loop_of self.now)) }
         ensures length { length heard.new ≡ length heard.old }
-        ensures value { (k : ℕ) → k < length heard.new → get_or heard.new k silence ≡ heard_from mode (current_list (seen_layers self.now.layers pool.now).layers) (self.now.deck.pos + k) }
+        ensures value { (k : ℕ) → k < length heard.new →
+            get_or heard.new k silence ≡ heard_from mode
+            (current_list (seen_layers self.now.layers pool.now).layers) (self.now.deck.pos + k) }
     {
         match mode {
             Mode::Overdubbing => self.layers.read_span(pool, self.deck.pos, heard),
@@ -100,7 +107,8 @@ impl Parts {
         requires heard { length input.now ≡ length heard.now }
         requires next { length next.old ≡ length input.now }
         ensures length { length next.new ≡ length input.now }
-        ensures value { (k : ℕ) → k < length input.now → get_or next.new k silence ≡ new_frame mode self.now.controls.feedback (get_or heard.now k silence) (get_or input.now k silence) }
+        ensures value { (k : ℕ) → k < length input.now → get_or next.new k silence ≡ new_frame mode
+            self.now.controls.feedback (get_or heard.now k silence) (get_or input.now k silence) }
     {
         match mode {
             Mode::Overdubbing => mix_row(self.controls.feedback, heard, input, next),
@@ -120,8 +128,8 @@ impl Parts {
         self.layers.seek(self.deck.pos);
     }
 
-    /// Writes a row of which these frames are heard, as far as it can be written at once, and goes on. `next` is room for what is
-    /// written. How many frames were written.
+    /// Writes a row of which these frames are heard, as far as it can be written at once, and goes
+    /// on. `next` is room for what is written. How many frames were written.
     #[tactic(auto, using(crate::proofs::RowLemmas::rows))]
     fn write_row(
         &mut self,
@@ -136,13 +144,18 @@ impl Parts {
         requires is { self.old.deck.mode ≡ mode }
         requires some { 1 ≤ length input.now }
         requires few { length input.now ≤ 256 }
-        requires row { IsRow mode (length input.now) self.old.deck.backward self.old.deck.pos (length_of (loop_of self.old)) }
+        requires row { IsRow mode (length input.now) self.old.deck.backward self.old.deck.pos
+            (length_of (loop_of self.old)) }
         requires same_length { length input.now ≡ length heard.now }
         requires room { length next.old ≡ length input.now }
-        requires heard { (k : ℕ) → k < length heard.now → get_or heard.now k silence ≡ heard_from mode (current_list (seen_layers self.old.layers pool.old).layers) (self.old.deck.pos + k) }
+        requires heard { (k : ℕ) → k < length heard.now →
+            get_or heard.now k silence ≡ heard_from mode
+            (current_list (seen_layers self.old.layers pool.old).layers) (self.old.deck.pos + k) }
         ensures within { result ≤ length input.now }
-        ensures did { Did (loop_over (take result input.now)) (strip_of self.old) (strip_of self.new) pool.old pool.new }
-        ensures heard { take result heard.now ≡ loop_heard_over (take result input.now) (reach_in (strip_of self.old) pool.old) (seen (strip_of self.old) pool.old) }
+        ensures did { Did (loop_over (take result input.now)) (strip_of self.old)
+            (strip_of self.new) pool.old pool.new }
+        ensures heard { take result heard.now ≡ loop_heard_over (take result input.now)
+            (reach_in (strip_of self.old) pool.old) (seen (strip_of self.old) pool.old) }
         ensures whole { IsWhole self.new }
     {
         self.mix_row_in(mode, heard, input, next);
@@ -153,19 +166,29 @@ impl Parts {
         done
     }
 
-    /// A row in this mode, as far as it can be written at once, and what is heard of it. How many frames that are.
+    /// A row in this mode, as far as it can be written at once, and what is heard of it. How many
+    /// frames that are.
     #[tactic(auto, using(crate::proofs::RowLemmas::rows))]
-    pub(crate) fn pass_row(&mut self, pool: &mut Pool, mode: Mode, input: &[Frame], heard: &mut [Frame]) -> usize
+    pub(crate) fn pass_row(
+        &mut self,
+        pool: &mut Pool,
+        mode: Mode,
+        input: &[Frame],
+        heard: &mut [Frame],
+    ) -> usize
         requires whole { IsWhole self.old }
         requires owns { Owns (strip_of self.old) pool.old }
         requires is { self.old.deck.mode ≡ mode }
         requires some { 1 ≤ length input.now }
         requires few { length input.now ≤ 256 }
-        requires row { IsRow mode (length input.now) self.old.deck.backward self.old.deck.pos (length_of (loop_of self.old)) }
+        requires row { IsRow mode (length input.now) self.old.deck.backward self.old.deck.pos
+            (length_of (loop_of self.old)) }
         requires same_length { length input.now ≡ length heard.old }
         ensures within { result ≤ length input.now }
-        ensures did { Did (loop_over (take result input.now)) (strip_of self.old) (strip_of self.new) pool.old pool.new }
-        ensures heard { take result heard.new ≡ loop_heard_over (take result input.now) (reach_in (strip_of self.old) pool.old) (seen (strip_of self.old) pool.old) }
+        ensures did { Did (loop_over (take result input.now)) (strip_of self.old)
+            (strip_of self.new) pool.old pool.new }
+        ensures heard { take result heard.new ≡ loop_heard_over (take result input.now)
+            (reach_in (strip_of self.old) pool.old) (seen (strip_of self.old) pool.old) }
         ensures same { length heard.new ≡ length heard.old }
         ensures whole { IsWhole self.new }
     {

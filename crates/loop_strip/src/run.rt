@@ -25,7 +25,8 @@ impl Parts {
         requires writes { is_writing mode ≡ true }
         requires placed { IsPlaced mode self.old.deck.pos (length_of (loop_of self.old)) }
         requires heard { sound.now ≡ heard (seen (strip_of self.old) pool.old) }
-        ensures did { Did (passes true frame.now) (strip_of self.old) (strip_of self.new) pool.old pool.new }
+        ensures did { Did (passes true frame.now) (strip_of self.old) (strip_of self.new) pool.old
+            pool.new }
         ensures pinned { self.new.pinned ≡ self.old.pinned }
         ensures writing { self.new.layers.writing ≡ is_writing self.new.deck.mode }
     {
@@ -49,7 +50,8 @@ impl Parts {
         requires owns { Owns (strip_of self.old) pool.now }
         requires is { self.old.deck.mode ≡ mode }
         requires quiet { is_writing mode ≡ false }
-        ensures did { Did (passes false frame.now) (strip_of self.old) (strip_of self.new) pool.now pool.now }
+        ensures did { Did (passes false frame.now) (strip_of self.old) (strip_of self.new) pool.now
+            pool.now }
         ensures pinned { self.new.pinned ≡ self.old.pinned }
         ensures writing { self.new.layers.writing ≡ is_writing self.new.deck.mode }
     {
@@ -65,7 +67,8 @@ impl Parts {
         requires writes { writing ≡ is_writing mode }
         requires placed { IsPlaced mode self.old.deck.pos (length_of (loop_of self.old)) }
         requires heard { sound.now ≡ heard (seen (strip_of self.old) pool.old) }
-        ensures did { Did (passes writing frame.now) (strip_of self.old) (strip_of self.new) pool.old pool.new }
+        ensures did { Did (passes writing frame.now) (strip_of self.old) (strip_of self.new)
+            pool.old pool.new }
         ensures pinned { self.new.pinned ≡ self.old.pinned }
         ensures writing { self.new.layers.writing ≡ is_writing self.new.deck.mode }
     {
@@ -81,8 +84,11 @@ impl Parts {
     pub(crate) fn frame(&mut self, pool: &mut Pool, frame: &Frame) -> Frame
         requires whole { IsWhole self.old }
         requires owns { Owns (strip_of self.old) pool.old }
-        ensures did { Did (frame_later frame.now) (strip_of self.old) (strip_of self.new) pool.old pool.new }
-        ensures heard { result ≡ heard (ready frame.now (reach_in (strip_of self.old) pool.old) (seen (strip_of self.old) pool.old)) }
+        ensures did { Did (frame_later frame.now) (strip_of self.old) (strip_of self.new) pool.old
+            pool.new }
+        ensures heard { result ≡ heard
+            (ready frame.now (reach_in (strip_of self.old) pool.old)
+            (seen (strip_of self.old) pool.old)) }
         ensures pinned { self.new.pinned ≡ self.old.pinned }
         ensures whole { IsWhole self.new }
     {
@@ -99,8 +105,10 @@ impl Parts {
         requires whole { IsWhole self.old }
         requires owns { Owns (strip_of self.old) pool.old }
         requires same_length { length input.now ≡ length heard.old }
-        ensures did { Did (loop_over input.now) (strip_of self.old) (strip_of self.new) pool.old pool.new }
-        ensures heard { heard.new ≡ loop_heard_over input.now (reach_in (strip_of self.old) pool.old) (seen (strip_of self.old) pool.old) }
+        ensures did { Did (loop_over input.now) (strip_of self.old) (strip_of self.new) pool.old
+            pool.new }
+        ensures heard { heard.new ≡ loop_heard_over input.now
+            (reach_in (strip_of self.old) pool.old) (seen (strip_of self.old) pool.old) }
         ensures whole { IsWhole self.new }
     {
         let mut done = 0;

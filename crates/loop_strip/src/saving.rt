@@ -43,7 +43,8 @@ impl Parts {
     pub(crate) fn pin(&mut self)
         requires whole { IsWhole self.old }
         requires free { self.old.layers.stack.pin ≡ None }
-        ensures did { DidAlone (λ reach l. with_stack (pinned l.stack) l) (strip_of self.old) (strip_of self.new) }
+        ensures did { DidAlone (λ reach l. with_stack (pinned l.stack) l) (strip_of self.old)
+            (strip_of self.new) }
         ensures whole { IsWhole self.new }
     {
         self.layers.pin();
@@ -55,7 +56,8 @@ impl Parts {
     #[tactic(auto, using(crate::proofs::SavingLemmas::pinning))]
     pub(crate) fn release_pin(&mut self)
         requires whole { IsWhole self.old }
-        ensures did { DidAlone (λ reach l. with_stack (unpinned l.stack) l) (strip_of self.old) (strip_of self.new) }
+        ensures did { DidAlone (λ reach l. with_stack (unpinned l.stack) l) (strip_of self.old)
+            (strip_of self.new) }
         ensures whole { IsWhole self.new }
     {
         self.layers.release();

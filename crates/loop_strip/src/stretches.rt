@@ -56,20 +56,23 @@ impl Parts {
         requires inside { self.now.deck.pos < length_of (loop_of self.now) }
         ensures within { result ≤ length input.now }
         ensures few { result ≤ most_told }
-        ensures ahead { IsAhead (length (take result input.now)) self.now.deck.backward self.now.deck.pos (length_of (loop_of self.now)) }
+        ensures ahead { IsAhead (length (take result input.now)) self.now.deck.backward
+            self.now.deck.pos (length_of (loop_of self.now)) }
     {
         let sizes = self.layers.sizes();
         count_of(input).min(places_ahead(self.deck.backward, self.deck.pos, sizes.length))
     }
 
-    /// How many of these frames are a stretch in this mode, 0 where the next one is to be taken alone.
+    /// How many of these frames are a stretch in this mode, 0 where the next one is to be taken
+    /// alone.
     #[tactic(auto, using(crate::proofs::StretchLemmas::stretching))]
     fn stretch_in(&self, mode: Mode, input: &[Frame]) -> u32
         requires whole { IsWhole self.now }
         requires is { self.now.deck.mode ≡ mode }
         ensures within { result ≤ length input.now }
         ensures few { result ≤ most_told }
-        ensures stretch { IsStretch mode (take result input.now) self.now.controls.rec_thresh self.now.deck.backward self.now.deck.pos (length_of (loop_of self.now)) }
+        ensures stretch { IsStretch mode (take result input.now) self.now.controls.rec_thresh
+            self.now.deck.backward self.now.deck.pos (length_of (loop_of self.now)) }
     {
         match mode {
             Mode::Off => count_of(input),
@@ -87,8 +90,10 @@ impl Parts {
     fn hear_back(&self, pool: &Pool, heard: &mut [Frame])
         requires short { self.now.deck.pos ≤ max_list_frames }
         requires owns { Owns (strip_of self.now) pool.now }
-        requires ahead { IsAhead (length heard.old) true self.now.deck.pos (length_of (loop_of self.now)) }
-        ensures { heard.new ≡ part_of true (length heard.old) self.now.deck.pos (current_list (seen_layers self.now.layers pool.now).layers) }
+        requires ahead { IsAhead (length heard.old) true self.now.deck.pos
+            (length_of (loop_of self.now)) }
+        ensures { heard.new ≡ part_of true (length heard.old) self.now.deck.pos
+            (current_list (seen_layers self.now.layers pool.now).layers) }
     {
         let first = self.deck.pos + 1 - heard.len() as u32;
         self.layers.read_span(pool, first, heard);
@@ -100,8 +105,10 @@ impl Parts {
     fn hear_part(&self, pool: &Pool, heard: &mut [Frame])
         requires short { self.now.deck.pos ≤ max_list_frames }
         requires owns { Owns (strip_of self.now) pool.now }
-        requires ahead { IsAhead (length heard.old) self.now.deck.backward self.now.deck.pos (length_of (loop_of self.now)) }
-        ensures { heard.new ≡ part_of self.now.deck.backward (length heard.old) self.now.deck.pos (current_list (seen_layers self.now.layers pool.now).layers) }
+        requires ahead { IsAhead (length heard.old) self.now.deck.backward self.now.deck.pos
+            (length_of (loop_of self.now)) }
+        ensures { heard.new ≡ part_of self.now.deck.backward (length heard.old) self.now.deck.pos
+            (current_list (seen_layers self.now.layers pool.now).layers) }
     {
         if self.deck.backward {
             self.hear_back(pool, heard);
@@ -116,8 +123,10 @@ impl Parts {
         requires short { self.now.deck.pos ≤ max_list_frames }
         requires owns { Owns (strip_of self.now) pool.now }
         requires same_length { length input.now ≡ length heard.old }
-        requires stretch { IsStretch mode input.now self.now.controls.rec_thresh self.now.deck.backward self.now.deck.pos (length_of (loop_of self.now)) }
-        ensures { heard.new ≡ part_heard mode self.now.deck.backward (length heard.old) self.now.deck.pos (current_list (seen_layers self.now.layers pool.now).layers) }
+        requires stretch { IsStretch mode input.now self.now.controls.rec_thresh
+            self.now.deck.backward self.now.deck.pos (length_of (loop_of self.now)) }
+        ensures { heard.new ≡ part_heard mode self.now.deck.backward (length heard.old)
+            self.now.deck.pos (current_list (seen_layers self.now.layers pool.now).layers) }
     {
         match mode {
             Mode::Playing => self.hear_part(pool, heard),
@@ -129,7 +138,8 @@ impl Parts {
     /// Goes so many places on in the direction.
     fn move_on(&mut self, frames: u32)
         requires short { self.old.deck.pos + frames ≤ 2 * max_list_frames }
-        ensures ok { loop_of self.new ≡ at_place (place_on self.old.deck.backward frames self.old.deck.pos) (loop_of self.old) }
+        ensures ok { loop_of self.new ≡ at_place
+            (place_on self.old.deck.backward frames self.old.deck.pos) (loop_of self.old) }
         ensures layers { self.new.layers ≡ self.old.layers }
         ensures pinned { self.new.pinned ≡ self.old.pinned }
     {
@@ -140,7 +150,8 @@ impl Parts {
     /// Goes so many frames on in this mode.
     fn go_stretch(&mut self, mode: Mode, frames: u32)
         requires short { self.old.deck.pos + frames ≤ 2 * max_list_frames }
-        ensures ok { loop_of self.new ≡ at_place (place_behind mode self.old.deck.backward frames self.old.deck.pos) (loop_of self.old) }
+        ensures ok { loop_of self.new ≡ at_place
+            (place_behind mode self.old.deck.backward frames self.old.deck.pos) (loop_of self.old) }
         ensures layers { self.new.layers ≡ self.old.layers }
         ensures pinned { self.new.pinned ≡ self.old.pinned }
     {
@@ -160,9 +171,12 @@ impl Parts {
         requires is { self.old.deck.mode ≡ mode }
         requires same_length { length input.now ≡ length heard.old }
         requires few { length input.now ≤ max_list_frames }
-        requires stretch { IsStretch mode input.now self.old.controls.rec_thresh self.old.deck.backward self.old.deck.pos (length_of (loop_of self.old)) }
-        ensures did { Did (loop_over input.now) (strip_of self.old) (strip_of self.new) pool.now pool.now }
-        ensures heard { heard.new ≡ loop_heard_over input.now (reach_in (strip_of self.old) pool.now) (seen (strip_of self.old) pool.now) }
+        requires stretch { IsStretch mode input.now self.old.controls.rec_thresh
+            self.old.deck.backward self.old.deck.pos (length_of (loop_of self.old)) }
+        ensures did { Did (loop_over input.now) (strip_of self.old) (strip_of self.new) pool.now
+            pool.now }
+        ensures heard { heard.new ≡ loop_heard_over input.now
+            (reach_in (strip_of self.old) pool.now) (seen (strip_of self.old) pool.now) }
         ensures whole { IsWhole self.new }
     {
         self.hear_stretch(pool, mode, input, heard);
@@ -177,8 +191,10 @@ impl Parts {
         requires some { 1 ≤ length input.now }
         requires same_length { length input.now ≡ length heard.old }
         ensures one { result ≡ 1 }
-        ensures did { Did (loop_over (take 1 input.now)) (strip_of self.old) (strip_of self.new) pool.old pool.new }
-        ensures heard { take 1 heard.new ≡ loop_heard_over (take 1 input.now) (reach_in (strip_of self.old) pool.old) (seen (strip_of self.old) pool.old) }
+        ensures did { Did (loop_over (take 1 input.now)) (strip_of self.old) (strip_of self.new)
+            pool.old pool.new }
+        ensures heard { take 1 heard.new ≡ loop_heard_over (take 1 input.now)
+            (reach_in (strip_of self.old) pool.old) (seen (strip_of self.old) pool.old) }
         ensures same { length heard.new ≡ length heard.old }
         ensures whole { IsWhole self.new }
     {
@@ -186,7 +202,8 @@ impl Parts {
         1
     }
 
-    /// The next row of these frames, as far as it can be written at once, or the next frame alone; how many they are.
+    /// The next row of these frames, as far as it can be written at once, or the next frame alone;
+    /// how many they are.
     #[tactic(auto, using(crate::proofs::RowLemmas::takes))]
     fn take_row(
         &mut self,
@@ -202,8 +219,10 @@ impl Parts {
         requires same_length { length input.now ≡ length heard.old }
         ensures some { 1 ≤ result }
         ensures within { result ≤ length input.now }
-        ensures did { Did (loop_over (take result input.now)) (strip_of self.old) (strip_of self.new) pool.old pool.new }
-        ensures heard { take result heard.new ≡ loop_heard_over (take result input.now) (reach_in (strip_of self.old) pool.old) (seen (strip_of self.old) pool.old) }
+        ensures did { Did (loop_over (take result input.now)) (strip_of self.old)
+            (strip_of self.new) pool.old pool.new }
+        ensures heard { take result heard.new ≡ loop_heard_over (take result input.now)
+            (reach_in (strip_of self.old) pool.old) (seen (strip_of self.old) pool.old) }
         ensures same { length heard.new ≡ length heard.old }
         ensures whole { IsWhole self.new }
     {
@@ -231,8 +250,10 @@ impl Parts {
         requires same_length { length input.now ≡ length heard.old }
         ensures some { 1 ≤ result }
         ensures within { result ≤ length input.now }
-        ensures did { Did (loop_over (take result input.now)) (strip_of self.old) (strip_of self.new) pool.old pool.new }
-        ensures heard { take result heard.new ≡ loop_heard_over (take result input.now) (reach_in (strip_of self.old) pool.old) (seen (strip_of self.old) pool.old) }
+        ensures did { Did (loop_over (take result input.now)) (strip_of self.old)
+            (strip_of self.new) pool.old pool.new }
+        ensures heard { take result heard.new ≡ loop_heard_over (take result input.now)
+            (reach_in (strip_of self.old) pool.old) (seen (strip_of self.old) pool.old) }
         ensures same { length heard.new ≡ length heard.old }
         ensures whole { IsWhole self.new }
     {

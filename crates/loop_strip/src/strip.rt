@@ -50,11 +50,17 @@ impl Model for Strip {
 }
 
 impl Strip {
-    /// A loop that is Off, with these controls and room for a tape of so many chunks. Only this call takes memory.
+    /// A loop that is Off, with these controls and room for a tape of so many chunks. Only this
+    /// call takes memory.
     pub fn new(alloc: Global, settings: StripSettings, chunks: u32) -> Result<Strip, Memory>
         requires settings { IsTrue (is_strip settings) }
         requires chunks { chunks ≤ max_chunks }
-        ensures value { IfOk result (λ s. s ≡ record { loop = first_loop [] settings; tape = record { chunks = []; len = 0; room = chunks } }) }
+        ensures value { IfOk result
+            (λ s. s ≡ record {
+              loop = first_loop [] settings;
+              tape =
+                  record { chunks = []; len = 0; room = chunks };
+            }) }
         ensures owns { IfOk result (λ s. (p : PoolOf) → p.all ≤ chunks → Owns s p) }
         ensures seen { IfOk result (λ s. (p : PoolOf) → seen s p ≡ first_loop [] settings) }
     {
@@ -64,8 +70,8 @@ impl Strip {
         }
     }
 
-    /// A new loop begins with this list, of 1 to 16777216 frames, and this cycle in frames, at most the list's length. There are chunks for all
-    /// frames.
+    /// A new loop begins with this list, of 1 to 16777216 frames, and this cycle in frames, at most
+    /// the list's length. There are chunks for all frames.
     #[tactic(auto, using(crate::proofs::LoadLemmas::beginning))]
     pub fn load(&mut self, pool: &mut Pool, frames: &[Frame], cycle: u32)
         requires owns { Owns self.old pool.old }
@@ -76,12 +82,15 @@ impl Strip {
         requires cycle_within { cycle ≤ length frames.now }
         requires room { chunks_of (length frames.now) ≤ free_in pool.old }
         ensures did { Did (loads frames.now cycle) self.old self.new pool.old pool.new }
-        ensures first { (settings : StripSettings) → seen self.old pool.old ≡ first_loop [] settings → seen self.new pool.new ≡ first_loop frames.now (record settings { cycle = cycle }) }
+        ensures first { (settings : StripSettings) →
+            seen self.old pool.old ≡ first_loop [] settings →
+            seen self.new pool.new ≡ first_loop frames.now (record settings { cycle = cycle }) }
     {
         self.parts.load(pool, frames, cycle);
     }
 
-    /// A verb given. `frame` is the number of the coming frame, and `long_press` the frames of a long press.
+    /// A verb given. `frame` is the number of the coming frame, and `long_press` the frames of a
+    /// long press.
     pub fn give(&mut self, pool: &mut Pool, press: Press, verb: Verb, frame: u64, long_press: u32)
         requires owns { Owns self.old pool.old }
         ensures { Did (gives press verb frame long_press) self.old self.new pool.old pool.new }
@@ -97,12 +106,14 @@ impl Strip {
         self.parts.boundary_act(pool);
     }
 
-    /// Plays these frames one after another: `input` is taken in, and what is heard of the loop is written to `heard`.
+    /// Plays these frames one after another: `input` is taken in, and what is heard of the loop is
+    /// written to `heard`.
     pub fn run(&mut self, pool: &mut Pool, input: &[Frame], heard: &mut [Frame])
         requires owns { Owns self.old pool.old }
         requires same_length { length input.now ≡ length heard.old }
         ensures did { Did (loop_over input.now) self.old self.new pool.old pool.new }
-        ensures heard { heard.new ≡ loop_heard_over input.now (reach_in self.old pool.old) (seen self.old pool.old) }
+        ensures heard { heard.new ≡ loop_heard_over input.now (reach_in self.old pool.old)
+            (seen self.old pool.old) }
     {
         self.parts.run(pool, input, heard);
     }
@@ -132,7 +143,9 @@ impl Strip {
 
     /// The value of a control, as a reply tells it.
     pub fn value(&self, pool: &Pool, control: Control) -> i32
-        ensures { result ≡ reply_value (pos (loop_value control (free_in pool.now) (seen self.now pool.now).controls (face_of (seen self.now pool.now)))) }
+        ensures { result ≡ reply_value
+            (pos (loop_value control (free_in pool.now) (seen self.now pool.now).controls
+            (face_of (seen self.now pool.now)))) }
     {
         self.parts.value(control, pool.free_chunks())
     }
@@ -145,7 +158,8 @@ impl Strip {
         self.parts.set(control, value);
     }
 
-    /// The settings that a save of the loop tells: the length and cycle of its list in frames, and its controls.
+    /// The settings that a save of the loop tells: the length and cycle of its list in frames, and
+    /// its controls.
     pub fn settings(&self) -> StripSettings
         ensures { (p : PoolOf) → result ≡ settings_of (seen self.now p) }
     {
@@ -188,8 +202,10 @@ impl Strip {
     #[tactic(auto, using(crate::proofs::StripLemmas::pinned_reads))]
     pub fn saved_span(&self, pool: &Pool, place: u32, out: &mut [Frame])
         requires owns { Owns self.now pool.now }
-        requires place { place + length out.old ≤ length (pinned_list (seen self.now pool.now).stack.pin) }
-        ensures { out.new ≡ take (length out.old) (drop place (pinned_list (seen self.now pool.now).stack.pin)) }
+        requires place { place + length out.old ≤ length
+            (pinned_list (seen self.now pool.now).stack.pin) }
+        ensures { out.new ≡ take (length out.old)
+            (drop place (pinned_list (seen self.now pool.now).stack.pin)) }
     {
         self.parts.layers.saved_span(pool, place, out);
     }
@@ -201,19 +217,23 @@ impl Strip {
         self.parts.layers.seek_saved(place);
     }
 
-    /// A number of frames of which only the first can take a chunk, open or close a layer, be refused or change the mode.
+    /// A number of frames of which only the first can take a chunk, open or close a layer, be
+    /// refused or change the mode.
     pub fn quiet(&self) -> u32
         ensures some { 1 ≤ result }
         ensures playing { self.now.loop.deck.mode ≡ Playing → 8192 ≤ result }
-        ensures quiet { (p : PoolOf) (x : Sound) (xs : List Sound) (reach : ℕ) → length xs < result → AreQuiet xs (frame_later x reach (seen self.now p)) }
+        ensures quiet { (p : PoolOf) (x : Sound) (xs : List Sound) (reach : ℕ) →
+            length xs < result → AreQuiet xs (frame_later x reach (seen self.now p)) }
     {
         self.parts.quiet()
     }
 
-    /// The same for the frames that are handed in: a loop in WaitStart is quiet up to its first loud frame.
+    /// The same for the frames that are handed in: a loop in WaitStart is quiet up to its first
+    /// loud frame.
     pub fn quiet_over(&self, input: &[Frame]) -> u32
         ensures some { 1 ≤ result }
-        ensures quiet { (p : PoolOf) (reach : ℕ) → AreQuietBehind (take result input.now) reach (seen self.now p) }
+        ensures quiet { (p : PoolOf) (reach : ℕ) →
+            AreQuietBehind (take result input.now) reach (seen self.now p) }
     {
         self.parts.quiet_over(input)
     }

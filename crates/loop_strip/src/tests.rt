@@ -133,7 +133,8 @@ fn is_clamped(strip: &mut Strip, pool: &mut Pool) -> bool
     first && second && hears_frame(strip, pool, Frame::silence(), loud)
 }
 
-/// A loop with a list tells its length and cycle, and plays from its first frame on once its pause ends.
+/// A loop with a list tells its length and cycle, and plays from its first frame on once its pause
+/// ends.
 fn begins(alloc: Global) -> Result<bool, Memory> {
     let list = [mono(1), mono(2), mono(3)];
     let mut pool = Pool::new(alloc, 16)?;

@@ -11,21 +11,39 @@ use Rattle.loop_tape.specs.Pools.{PoolOf, IsPool, IsTaken, IsOutside, HoldsPool,
 
 -- silence everywhere, also past the end
 get_or-silent : (n i : ℕ) → get_or (replicate n silence) i silence ≡ silence
-get_or-silent n i = grind (arith, get_or-replicate n i silence silence, get_or_past (replicate n silence) i silence, length-replicate n silence)
+get_or-silent n i =
+    grind (
+      arith,
+      get_or-replicate n i silence silence,
+      get_or_past (replicate n silence) i silence,
+      length-replicate n silence,
+    )
 
 -- what lies past the end reads as silence, padded or not
-pub get_or-padded : (n : ℕ) (xs : List Sound) (i : ℕ) → get_or (padded n xs) i silence ≡ get_or xs i silence
-get_or-padded n xs i = grind (arith, get_or_append_left xs (replicate (n - length xs) silence) silence i, get_or-append_right xs (replicate (n - length xs) silence) i silence, get_or-silent (n - length xs) (i - length xs), get_or_past xs i silence)
+pub get_or-padded : (n : ℕ) (xs : List Sound) (i : ℕ) →
+    get_or (padded n xs) i silence ≡ get_or xs i silence
+get_or-padded n xs i =
+    grind (
+      arith,
+      get_or_append_left xs (replicate (n - length xs) silence) silence i,
+      get_or-append_right xs (replicate (n - length xs) silence) i silence,
+      get_or-silent (n - length xs) (i - length xs),
+      get_or_past xs i silence,
+    )
 
 -- a frame set before the padding
-pub set-padded : (n : ℕ) (xs : List Sound) (i : ℕ) (x : Sound) → i < length xs → set (padded n xs) i x ≡ padded n (set xs i x)
-set-padded n xs i x lt = rw (length-set xs i x) (set-append_left xs (replicate (n - length xs) silence) i x lt)
+pub set-padded : (n : ℕ) (xs : List Sound) (i : ℕ) (x : Sound) → i < length xs →
+    set (padded n xs) i x ≡ padded n (set xs i x)
+set-padded n xs i x lt =
+    rw (length-set xs i x) (set-append_left xs (replicate (n - length xs) silence) i x lt)
 
 pub length-padded : (n : ℕ) (xs : List Sound) → length xs ≤ n → length (padded n xs) ≡ n
-length-padded n xs le = let e = length-append xs (replicate (n - length xs) silence) in let f = length-replicate (n - length xs) silence in omega (arith, e, f, le)
+length-padded n xs le = let e = length-append xs (replicate (n - length xs) silence) in
+    let f = length-replicate (n - length xs) silence in omega (arith, e, f, le)
 
 -- frames put before the padding
-pub length-with_frames : (slot : ℕ) (ys xs : List Sound) → slot + length ys ≤ length xs → length (with_frames slot ys xs) ≡ length xs
+pub length-with_frames : (slot : ℕ) (ys xs : List Sound) → slot + length ys ≤ length xs →
+    length (with_frames slot ys xs) ≡ length xs
 length-with_frames slot ys xs le =
     let a = length-append (take slot xs) (ys ++ drop (slot + length ys) xs) in
     let b = length-append ys (drop (slot + length ys) xs) in
@@ -43,60 +61,80 @@ drop-before zero xs ys le = refl
 drop-before (suc k) [] ys le = absurd (omega (arith, le))
 drop-before (suc k) (x ∷ xs) ys le = drop-before k xs ys (omega (arith, le))
 
-pub with_frames-padded : (n slot : ℕ) (ys xs : List Sound) → slot + length ys ≤ length xs → with_frames slot ys (padded n xs) ≡ padded n (with_frames slot ys xs)
+pub with_frames-padded : (n slot : ℕ) (ys xs : List Sound) → slot + length ys ≤ length xs →
+    with_frames slot ys (padded n xs) ≡ padded n (with_frames slot ys xs)
 with_frames-padded n slot ys xs le =
     let pad = replicate (n - length xs) silence in
     let l = length-with_frames slot ys xs le in
     let a = append_assoc (take slot xs) (ys ++ drop (slot + length ys) xs) pad in
     let b = append_assoc ys (drop (slot + length ys) xs) pad in
-    rw (l, take-before slot xs pad (omega (arith, le)), drop-before (slot + length ys) xs pad le, a, b) refl
+    rw (
+      l,
+      take-before slot xs pad (omega (arith, le)),
+      drop-before (slot + length ys) xs pad le,
+      a,
+      b,
+    ) refl
 
 -- the frames that were put, and the others
-pub with_frames-there : (slot k : ℕ) (ys xs : List Sound) → slot + length ys ≤ length xs → k < length ys → get_or (with_frames slot ys xs) (slot + k) silence ≡ get_or ys k silence
+pub with_frames-there : (slot k : ℕ) (ys xs : List Sound) → slot + length ys ≤ length xs →
+    k < length ys → get_or (with_frames slot ys xs) (slot + k) silence ≡ get_or ys k silence
 with_frames-there slot k ys xs le lt =
     let t = length-take-le slot xs (omega (arith, le)) in
-    let a = get_or_at_right (take slot xs) (ys ++ drop (slot + length ys) xs) slot (slot + k) silence t (omega arith) in
+    let a = get_or_at_right (take slot xs) (ys ++ drop (slot + length ys) xs) slot (slot + k)
+    silence t (omega arith) in
     let z : slot + k - slot ≡ k = omega arith in
     rw (a, z) (get_or_append_left ys (drop (slot + length ys) xs) silence k lt)
 
-pub with_frames-before : (slot i : ℕ) (ys xs : List Sound) → i < slot → slot ≤ length xs → get_or (with_frames slot ys xs) i silence ≡ get_or xs i silence
+pub with_frames-before : (slot i : ℕ) (ys xs : List Sound) → i < slot → slot ≤ length xs →
+    get_or (with_frames slot ys xs) i silence ≡ get_or xs i silence
 with_frames-before slot i ys xs lt le =
     let t = length-take-le slot xs le in
-    let a = get_or_append_left (take slot xs) (ys ++ drop (slot + length ys) xs) silence i (omega (arith, t, lt)) in
+    let a = get_or_append_left (take slot xs) (ys ++ drop (slot + length ys) xs) silence i
+    (omega (arith, t, lt)) in
     rw a (get_or-take slot i xs lt)
   where
-    get_or-take : (n i : ℕ) (xs : List Sound) → i < n → get_or (take n xs) i silence ≡ get_or xs i silence
+    get_or-take : (n i : ℕ) (xs : List Sound) → i < n →
+        get_or (take n xs) i silence ≡ get_or xs i silence
     get_or-take zero i xs lt = absurd (omega (arith, lt))
     get_or-take (suc n) i [] lt = refl
     get_or-take (suc n) zero (x ∷ xs) lt = refl
     get_or-take (suc n) (suc i) (x ∷ xs) lt = get_or-take n i xs (omega (arith, lt))
 
-dropped-at : (n i : ℕ) (xs : List Sound) → n ≤ i → get_or (drop n xs) (i - n) silence ≡ get_or xs i silence
+dropped-at : (n i : ℕ) (xs : List Sound) → n ≤ i →
+    get_or (drop n xs) (i - n) silence ≡ get_or xs i silence
 dropped-at zero i xs le = let z : i - 0 ≡ i = omega arith in rw z refl
 dropped-at (suc n) i [] le = refl
 dropped-at (suc n) zero (x ∷ xs) le = absurd (omega (arith, le))
-dropped-at (suc n) (suc i) (x ∷ xs) le = let z : suc i - suc n ≡ i - n = omega arith in rw z (dropped-at n i xs (omega (arith, le)))
+dropped-at (suc n) (suc i) (x ∷ xs) le = let z : suc i - suc n ≡ i - n = omega arith in
+    rw z (dropped-at n i xs (omega (arith, le)))
 
-pub with_frames-behind : (slot i : ℕ) (ys xs : List Sound) → slot + length ys ≤ i → slot ≤ length xs → get_or (with_frames slot ys xs) i silence ≡ get_or xs i silence
+pub with_frames-behind : (slot i : ℕ) (ys xs : List Sound) → slot + length ys ≤ i →
+    slot ≤ length xs → get_or (with_frames slot ys xs) i silence ≡ get_or xs i silence
 with_frames-behind slot i ys xs lt le =
     let t = length-take-le slot xs le in
-    let a = get_or_at_right (take slot xs) (ys ++ drop (slot + length ys) xs) slot i silence t (omega (arith, lt)) in
-    let b = get_or_at_right ys (drop (slot + length ys) xs) (length ys) (i - slot) silence refl (omega (arith, lt)) in
+    let a = get_or_at_right (take slot xs) (ys ++ drop (slot + length ys) xs) slot i silence t
+    (omega (arith, lt)) in
+    let b = get_or_at_right ys (drop (slot + length ys) xs) (length ys) (i - slot) silence refl
+    (omega (arith, lt)) in
     let z : i - slot - length ys ≡ i - (slot + length ys) = omega arith in
     rw (a, b, z) (dropped-at (slot + length ys) i xs lt)
 
 -- padding twice
 pub padded-padded : (n m : ℕ) (xs : List Sound) → m ≤ n → padded n (padded m xs) ≡ padded n xs
 padded-padded n m xs le =
-    let e = append_assoc xs (replicate (m - length xs) silence) (replicate (n - length (padded m xs)) silence) in
+    let e = append_assoc xs (replicate (m - length xs) silence)
+    (replicate (n - length (padded m xs)) silence) in
     let f = replicate-append-replicate (m - length xs) (n - length (padded m xs)) silence in
     let g = length-append xs (replicate (m - length xs) silence) in
     let k = length-replicate (m - length xs) silence in
-    let h : (m - length xs) + (n - length (padded m xs)) ≡ n - length xs = omega (arith, g, k, le) in
+    let h : (m - length xs) + (n - length (padded m xs)) ≡ n - length xs =
+    omega (arith, g, k, le) in
     rw (e, f, h) refl
 
 -- one frame of silence more
-pub padded-pushed : (n : ℕ) (xs : List Sound) → length xs < n → padded n (xs ++ silence ∷ []) ≡ padded n xs
+pub padded-pushed : (n : ℕ) (xs : List Sound) → length xs < n →
+    padded n (xs ++ silence ∷ []) ≡ padded n xs
 padded-pushed n xs lt =
     let e = append_assoc xs (silence ∷ []) (replicate (n - length (xs ++ silence ∷ [])) silence) in
     let g = length-append xs (silence ∷ []) in
@@ -112,45 +150,69 @@ length-downward b (suc n) = let h = length-downward b n in omega (arith, h)
 pub get_or-downward : (b n i : ℕ) → i < n → get_or (downward b n) i 0 + i + 1 ≡ b + n
 get_or-downward b zero i lt = absurd (omega (arith, lt))
 get_or-downward b (suc n) zero lt = omega arith
-get_or-downward b (suc n) (suc i) lt = let h = get_or-downward b n i (omega (arith, lt)) in omega (arith, h)
+get_or-downward b (suc n) (suc i) lt = let h = get_or-downward b n i (omega (arith, lt)) in
+    omega (arith, h)
 
 -- the first of the chunks stands at the end
 pub downward_first : (b n : ℕ) → downward b (suc n) ≡ downward (suc b) n ++ b ∷ []
 downward_first b zero = grind arith
-downward_first b (suc n) = let h = downward_first b n in let e : b + suc n ≡ suc b + n = omega arith in rw (h, e) refl
+downward_first b (suc n) = let h = downward_first b n in let e : b + suc n ≡ suc b + n =
+    omega arith in rw (h, e) refl
 
 pub length-free : (b a : ℕ) (given : List ℕ) → length (free_of b a given) ≡ (a - b) + length given
-length-free b a given = let e = length-append (downward b (a - b)) given in let f = length-downward b (a - b) in omega (arith, e, f)
+length-free b a given = let e = length-append (downward b (a - b)) given in
+    let f = length-downward b (a - b) in omega (arith, e, f)
 
 -- a chunk that was never taken
-free_first : (b a : ℕ) (given : List ℕ) (j : ℕ) → b ≤ a → j < a - b → get_or (free_of b a given) j 0 + j + 1 ≡ a
-free_first b a given j le lt = let e = get_or_append_left (downward b (a - b)) given 0 j (let f = length-downward b (a - b) in omega (arith, f, lt)) in let h = get_or-downward b (a - b) j lt in omega (arith, e, h, le)
+free_first : (b a : ℕ) (given : List ℕ) (j : ℕ) → b ≤ a → j < a - b →
+    get_or (free_of b a given) j 0 + j + 1 ≡ a
+free_first b a given j le lt = let e =
+    get_or_append_left (downward b (a - b)) given 0 j (let f = length-downward b (a - b) in
+    omega (arith, f, lt)) in let h = get_or-downward b (a - b) j lt in omega (arith, e, h, le)
 
 -- a chunk that was given back
-free_given : (b a : ℕ) (given : List ℕ) (j : ℕ) → a - b ≤ j → get_or (free_of b a given) j 0 ≡ get_or given (j - (a - b)) 0
-free_given b a given j le = let f = length-downward b (a - b) in let e = get_or-append_right (downward b (a - b)) given j 0 (omega (arith, f, le)) in rw f at e
+free_given : (b a : ℕ) (given : List ℕ) (j : ℕ) → a - b ≤ j →
+    get_or (free_of b a given) j 0 ≡ get_or given (j - (a - b)) 0
+free_given b a given j le = let f = length-downward b (a - b) in
+    let e = get_or-append_right (downward b (a - b)) given j 0 (omega (arith, f, le)) in rw f at e
 
 -- a chunk that is taken was filled
-pub taken_begun : (b a : ℕ) (given : List ℕ) (c : ℕ) → b ≤ a → c < a → IsOutside c (free_of b a given) → c < b
-taken_begun b a given c le lt out = grind (arith, out (a - 1 - c), free_first b a given (a - 1 - c), length-free b a given)
+pub taken_begun : (b a : ℕ) (given : List ℕ) (c : ℕ) → b ≤ a → c < a →
+    IsOutside c (free_of b a given) → c < b
+taken_begun b a given c le lt out =
+    grind (arith, out (a - 1 - c), free_first b a given (a - 1 - c), length-free b a given)
 
 -- a list that is long enough stays
 pub padded-long : (n : ℕ) (xs : List Sound) → n ≤ length xs → padded n xs ≡ xs
 padded-long n xs le = let e : n - length xs ≡ 0 = omega (arith, le) in rw e (append-nil xs)
 
 -- what lies in a chunk that is taken was filled
-pub slot_filled : (p : PoolOf) (store : List Sound) (given : List ℕ) (b slot : ℕ) → IsTaken p (slot / 4096) → HoldsPool store given b p.all → p.free ≡ free_of b p.all given → slot < length store
-slot_filled p store given b slot t h e = let g = taken_begun b p.all given (slot / 4096) h.within t.inside (rw e at t.taken) in let f = h.filled in omega (arith, g, f)
+pub slot_filled : (p : PoolOf) (store : List Sound) (given : List ℕ) (b slot : ℕ) →
+    IsTaken p (slot / 4096) → HoldsPool store given b p.all → p.free ≡ free_of b p.all given →
+    slot < length store
+slot_filled p store given b slot t h e = let g = taken_begun b p.all given (slot / 4096) h.within
+    t.inside (rw e at t.taken) in let f = h.filled in omega (arith, g, f)
 
 -- a part of a chunk that is taken was filled
-pub part_filled : (p : PoolOf) (store : List Sound) (given : List ℕ) (b slot count : ℕ) → IsTaken p (slot / 4096) → HoldsPool store given b p.all → p.free ≡ free_of b p.all given → slot % 4096 + count ≤ 4096 → slot + count ≤ length store
-part_filled p store given b slot count t h e le = let g = taken_begun b p.all given (slot / 4096) h.within t.inside (rw e at t.taken) in let f = h.filled in omega (arith, g, f, le)
+pub part_filled : (p : PoolOf) (store : List Sound) (given : List ℕ) (b slot count : ℕ) →
+    IsTaken p (slot / 4096) → HoldsPool store given b p.all → p.free ≡ free_of b p.all given →
+    slot % 4096 + count ≤ 4096 → slot + count ≤ length store
+part_filled p store given b slot count t h e le = let g = taken_begun b p.all given (slot / 4096)
+    h.within t.inside (rw e at t.taken) in let f = h.filled in omega (arith, g, f, le)
 
 -- what always holds of a pool, of its parts
-pub held_pool : (store : List Sound) (given : List ℕ) (b a : ℕ) → HoldsPool store given b a → IsPool (record { store = padded (a * 4096) store; free = free_of b a given; all = a })
+pub held_pool : (store : List Sound) (given : List ℕ) (b a : ℕ) → HoldsPool store given b a →
+    IsPool (record { store = padded (a * 4096) store; free = free_of b a given; all = a })
 held_pool store given b a h = record {
   store = length-padded (a * 4096) store h.short;
-  inside = λ i lt. grind (arith, free_first b a given i, free_given b a given i, h.below (i - (a - b)), length-free b a given, h.within);
+  inside = λ i lt. grind (
+    arith,
+    free_first b a given i,
+    free_given b a given i,
+    h.below (i - (a - b)),
+    length-free b a given,
+    h.within,
+  );
   once = h.once;
 }
 
@@ -167,7 +229,9 @@ held_new a le = record {
 }
 
 -- more frames filled, or frames set
-pub held_filled : (store store' : List Sound) (given : List ℕ) (b a : ℕ) → HoldsPool store given b a → length store ≤ length store' → length store' ≤ a * 4096 → HoldsPool store' given b a
+pub held_filled : (store store' : List Sound) (given : List ℕ) (b a : ℕ) →
+    HoldsPool store given b a → length store ≤ length store' → length store' ≤ a * 4096 →
+    HoldsPool store' given b a
 held_filled store store' given b a h more le = record {
   once = h.once;
   below = h.below;
@@ -179,7 +243,8 @@ held_filled store store' given b a h more le = record {
 }
 
 -- the free chunks with one given back
-free_more : (b a : ℕ) (given : List ℕ) (k : ℕ) → free_of b a (given ++ k ∷ []) ≡ free_of b a given ++ k ∷ []
+free_more : (b a : ℕ) (given : List ℕ) (k : ℕ) →
+    free_of b a (given ++ k ∷ []) ≡ free_of b a given ++ k ∷ []
 free_more b a given k = sym (append_assoc (downward b (a - b)) given (k ∷ []))
 
 -- the free chunks with one begun
@@ -190,11 +255,21 @@ free_begun b a lt =
     rw (append-nil (downward b (a - b)), append-nil (downward (suc b) (a - suc b)), e) f
 
 -- a chunk given back
-pub held_given : (store : List Sound) (given : List ℕ) (b a k : ℕ) → HoldsPool store given b a → k < a → IsOutside k (free_of b a given) → length (free_of b a given) < a → HoldsPool store (given ++ k ∷ []) b a
+pub held_given : (store : List Sound) (given : List ℕ) (b a k : ℕ) → HoldsPool store given b a →
+    k < a → IsOutside k (free_of b a given) → length (free_of b a given) < a →
+    HoldsPool store (given ++ k ∷ []) b a
 held_given store given b a k h lt out room = record {
   once = rw (free_more b a given k) (distinct_more (free_of b a given) k h.once out);
-  below = λ j lj. grind (arith, h.below j, length-last given k, before_last given k j, at_last given k j, taken_begun b a given k h.within lt out);
-  fewer = let e = length-last given k in let f = length-free b a given in let g = h.within in omega (arith, e, f, g, room);
+  below = λ j lj. grind (
+    arith,
+    h.below j,
+    length-last given k,
+    before_last given k j,
+    at_last given k j,
+    taken_begun b a given k h.within lt out,
+  );
+  fewer = let e = length-last given k in let f = length-free b a given in let g = h.within in
+      omega (arith, e, f, g, room);
   within = h.within;
   most = h.most;
   filled = h.filled;
@@ -202,10 +277,12 @@ held_given store given b a k h lt out room = record {
 }
 
 -- a chunk that was given back, taken
-pub held_taken : (store : List Sound) (given : List ℕ) (b a k : ℕ) → HoldsPool store (given ++ k ∷ []) b a → HoldsPool store given b a
+pub held_taken : (store : List Sound) (given : List ℕ) (b a k : ℕ) →
+    HoldsPool store (given ++ k ∷ []) b a → HoldsPool store given b a
 held_taken store given b a k h = record {
   once = distinct_fewer (free_of b a given) k (rw (free_more b a given k) at h.once);
-  below = λ j lj. let e = h.below j (let g = length-last given k in omega (arith, g, lj)) in let f = before_last given k j lj in omega (arith, e, f);
+  below = λ j lj. let e = h.below j (let g = length-last given k in omega (arith, g, lj)) in
+      let f = before_last given k j lj in omega (arith, e, f);
   fewer = let e = length-last given k in let f = h.fewer in omega (arith, e, f);
   within = h.within;
   most = h.most;
@@ -213,9 +290,11 @@ held_taken store given b a k h = record {
   short = h.short;
 }
 
-pub chunk_taken : (store : List Sound) (given : List ℕ) (b a k : ℕ) → HoldsPool store (given ++ k ∷ []) b a → (k < a) × IsOutside k (free_of b a given)
+pub chunk_taken : (store : List Sound) (given : List ℕ) (b a k : ℕ) →
+    HoldsPool store (given ++ k ∷ []) b a → (k < a) × IsOutside k (free_of b a given)
 chunk_taken store given b a k h = (
-  let e = h.below (length given) (let g = length-last given k in omega (arith, g)) in let f = at_last given k (length given) refl in let w = h.within in omega (arith, e, f, w),
+  let e = h.below (length given) (let g = length-last given k in omega (arith, g)) in
+      let f = at_last given k (length given) refl in let w = h.within in omega (arith, e, f, w),
   last_outside (free_of b a given) k (rw (free_more b a given k) at h.once),
 )
 
@@ -225,7 +304,9 @@ is_nil [] e = refl
 is_nil (x ∷ xs) e = absurd (omega (arith, e))
 
 -- a chunk begun
-pub held_begun : (store : List Sound) (given given' : List ℕ) (b a : ℕ) → HoldsPool store given b a → b ≢ a → given ≡ [] → given' ≡ [] → HoldsPool (padded ((b + 1) * 4096) store) given' (b + 1) a
+pub held_begun : (store : List Sound) (given given' : List ℕ) (b a : ℕ) →
+    HoldsPool store given b a → b ≢ a → given ≡ [] → given' ≡ [] →
+    HoldsPool (padded ((b + 1) * 4096) store) given' (b + 1) a
 held_begun store given given' b a h ne e e' =
     let w = h.within in
     let lt : b < a = omega (arith, w, ne) in
@@ -237,7 +318,8 @@ held_begun store given given' b a h ne e e' =
     let low : (b + 1) * 4096 ≤ length (padded ((b + 1) * 4096) store) = omega (arith, l, r) in
     let high : length (padded ((b + 1) * 4096) store) ≤ a * 4096 = omega (arith, l, r, s, lt) in
     record {
-      once = rw (e', n) (distinct_fewer (free_of (suc b) a []) b (rw (e, free_begun b a lt) at h.once));
+      once = rw (e', n) (distinct_fewer (free_of (suc b) a []) b
+          (rw (e, free_begun b a lt) at h.once));
       below = λ j lj. absurd (let z : length given' ≡ 0 = ap length e' in omega (arith, z, lj));
       fewer = let z : length given' ≡ 0 = ap length e' in omega (arith, z);
       within = omega (arith, lt);
@@ -247,14 +329,20 @@ held_begun store given given' b a h ne e e' =
     }
 
 -- the frames of a pool with a chunk begun
-pub padded-begun : (store : List Sound) (b a : ℕ) → b ≤ a → b ≢ a → padded (a * 4096) (padded ((b + 1) * 4096) store) ≡ padded (a * 4096) store
-padded-begun store b a le ne = padded-padded (a * 4096) ((b + 1) * 4096) store (omega (arith, le, ne))
+pub padded-begun : (store : List Sound) (b a : ℕ) → b ≤ a → b ≢ a →
+    padded (a * 4096) (padded ((b + 1) * 4096) store) ≡ padded (a * 4096) store
+padded-begun store b a le ne =
+    padded-padded (a * 4096) ((b + 1) * 4096) store (omega (arith, le, ne))
 
 -- the free chunks of a pool with a chunk begun
-pub free_begins : (given given' : List ℕ) (b a : ℕ) → b ≤ a → b ≢ a → given ≡ [] → given' ≡ [] → free_of b a given ≡ free_of (b + 1) a given' ++ b ∷ []
-free_begins given given' b a le ne e e' = let n : b + 1 ≡ suc b = omega arith in rw (e, e', n) (free_begun b a (omega (arith, le, ne)))
+pub free_begins : (given given' : List ℕ) (b a : ℕ) → b ≤ a → b ≢ a → given ≡ [] → given' ≡ [] →
+    free_of b a given ≡ free_of (b + 1) a given' ++ b ∷ []
+free_begins given given' b a le ne e e' = let n : b + 1 ≡ suc b = omega arith in
+    rw (e, e', n) (free_begun b a (omega (arith, le, ne)))
 
-pub chunk_begun : (store : List Sound) (given given' : List ℕ) (b a : ℕ) → HoldsPool store given b a → b ≢ a → given ≡ [] → given' ≡ [] → (b < a) × IsOutside b (free_of (b + 1) a given')
+pub chunk_begun : (store : List Sound) (given given' : List ℕ) (b a : ℕ) →
+    HoldsPool store given b a → b ≢ a → given ≡ [] → given' ≡ [] → (b < a)
+    × IsOutside b (free_of (b + 1) a given')
 chunk_begun store given given' b a h ne e e' =
     let w = h.within in
     let lt : b < a = omega (arith, w, ne) in

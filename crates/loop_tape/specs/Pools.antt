@@ -1,12 +1,13 @@
--- A pool has a number of chunks, each of 4096 frames, and all tapes of a looper take their chunks from it.
--- A chunk is free, or a tape has it. A frame of a chunk to which nothing was ever written is silence.
+-- A pool has a number of chunks, each of 4096 frames, and all tapes of a looper take their chunks
+-- from it. A chunk is free, or a tape has it. A frame of a chunk to which nothing was ever written
+-- is silence.
 -- "Room" in docs/rules.md.
 use Rattle.std.specs.Prelude.{◌≡◌, ◌≢◌, ◌≤◌, ◌<◌, ℕ, zero, suc, ◌+◌, ◌-◌, ◌*◌, List, [], ◌∷◌, ◌++◌, length, take, drop, get_or, replicate}
 use Rattle.sl_base.specs.Limits.{chunk_frames, max_chunks}
 use Rattle.sl_base.specs.Sounds.{Sound, silence}
 
--- what a pool is seen as: the frames of all chunks, one chunk after the other, the numbers of the free chunks, and how
--- many chunks there are
+-- what a pool is seen as: the frames of all chunks, one chunk after the other, the numbers of the
+-- free chunks, and how many chunks there are
 pub record PoolOf : Type 0 where
   pub store : List Sound
   pub free : List ℕ
@@ -48,7 +49,8 @@ downward chunk (suc n) = (chunk + n) ∷ downward chunk n
 abbrev pub free_of : ℕ → ℕ → List ℕ → List ℕ
 free_of begun all given = downward begun (all - begun) ++ given
 
--- what always holds of a pool's parts: the frames that were filled, the chunks given back, the chunks begun, and all
+-- what always holds of a pool's parts: the frames that were filled, the chunks given back, the
+-- chunks begun, and all
 pub record HoldsPool (store : List Sound) (given : List ℕ) (begun all : ℕ) : Type 0 where
   pub once : AreDistinct (free_of begun all given)
   pub below : (j : ℕ) → j < length given → get_or given j 0 < begun

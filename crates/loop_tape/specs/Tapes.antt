@@ -7,7 +7,8 @@ use Rattle.sl_base.specs.Limits.{chunk_frames}
 use Rattle.sl_base.specs.Sounds.{Sound, silence}
 use Rattle.loop_tape.specs.Pools.{PoolOf, AreDistinct}
 
--- what a tape is seen as: the numbers of its chunks in order, its length, and how many chunks it has room for
+-- what a tape is seen as: the numbers of its chunks in order, its length, and how many chunks it
+-- has room for
 pub record TapeOf : Type 0 where
   pub chunks : List ℕ
   pub len : ℕ
@@ -15,7 +16,8 @@ pub record TapeOf : Type 0 where
 
 -- where an address of a tape lies among the frames of the pool
 abbrev pub slot : List ℕ → ℕ → ℕ
-slot chunks address = get_or chunks (address / chunk_frames) 0 * chunk_frames + address % chunk_frames
+slot chunks address = get_or chunks (address / chunk_frames) 0 * chunk_frames + address
+    % chunk_frames
 
 -- the frame at an address
 abbrev pub at : TapeOf → PoolOf → ℕ → Sound
@@ -25,18 +27,21 @@ at t p address = get_or p.store (slot t.chunks address) silence
 pub record Owns (t : TapeOf) (p : PoolOf) : Type 0 where
   pub inside : (i : ℕ) → i < length t.chunks → get_or t.chunks i 0 < p.all
   pub once : AreDistinct t.chunks
-  pub taken : (i j : ℕ) → i < length t.chunks → j < length p.free → get_or t.chunks i 0 ≢ get_or p.free j 0
+  pub taken : (i j : ℕ) → i < length t.chunks → j < length p.free →
+      get_or t.chunks i 0 ≢ get_or p.free j 0
   pub fits : p.all ≤ t.room
 
 -- two tapes have no chunk in common
 abbrev pub Apart : TapeOf → TapeOf → Type 0
-Apart u t = (i j : ℕ) → i < length u.chunks → j < length t.chunks → get_or u.chunks i 0 ≢ get_or t.chunks j 0
+Apart u t = (i j : ℕ) → i < length u.chunks → j < length t.chunks →
+    get_or u.chunks i 0 ≢ get_or t.chunks j 0
 
 -- the tape is as long as its chunks say
 abbrev pub IsWhole : TapeOf → Type 0
 IsWhole t = length t.chunks ≡ (t.len + 4095) / chunk_frames
 
--- a tape over the same pool has kept its frames, and has no chunk in common with one that has changed
+-- a tape over the same pool has kept its frames, and has no chunk in common with one that has
+-- changed
 pub record Stays (u t' : TapeOf) (p p' : PoolOf) : Type 0 where
   pub owned : Owns u p'
   pub apart : Apart u t'

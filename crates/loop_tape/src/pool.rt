@@ -33,7 +33,8 @@ impl Model for Pool {
 }
 
 impl Pool {
-    /// So many chunks, 32768 at most, all free and silent. It takes 32 KiB of memory for each, and touches none of it.
+    /// So many chunks, 32768 at most, all free and silent. It takes 32 KiB of memory for each, and
+    /// touches none of it.
     #[tactic(auto, using(crate::proofs::PoolLemmas::news))]
     pub fn new(alloc: Global, chunks: u32) -> Result<Pool, Memory>
         requires { chunks ≤ max_chunks }
@@ -96,7 +97,8 @@ impl Pool {
         requires taken { IsTaken self.now (slot / chunk_frames) }
         requires within { slot % chunk_frames + count ≤ chunk_frames }
         ensures length { length result.now ≡ count }
-        ensures value { (k : ℕ) → k < count → get_or result.now k silence ≡ get_or self.now.store (slot + k) silence }
+        ensures value { (k : ℕ) → k < count →
+            get_or result.now k silence ≡ get_or self.now.store (slot + k) silence }
     {
         &self.store[slot..slot + count]
     }
@@ -105,7 +107,12 @@ impl Pool {
     #[tactic(auto, using(crate::proofs::PoolLemmas::writes))]
     pub(crate) fn write(&mut self, slot: usize, frame: Frame)
         requires { IsTaken self.old (slot / chunk_frames) }
-        ensures { self.new ≡ record { store = slice_set self.old.store slot frame; free = self.old.free; all = self.old.all } }
+        ensures { self.new ≡ record {
+          store = slice_set self.old.store slot frame;
+          free =
+              self.old.free;
+          all = self.old.all;
+        } }
     {
         self.store[slot] = frame;
     }
@@ -115,7 +122,12 @@ impl Pool {
     pub(crate) fn write_frames(&mut self, slot: usize, frames: &[Frame])
         requires taken { IsTaken self.old (slot / chunk_frames) }
         requires within { slot % chunk_frames + length frames.now ≤ chunk_frames }
-        ensures { self.new ≡ record { store = with_frames slot frames.now self.old.store; free = self.old.free; all = self.old.all } }
+        ensures { self.new ≡ record {
+          store = with_frames slot frames.now self.old.store;
+          free =
+              self.old.free;
+          all = self.old.all;
+        } }
     {
         self.store[slot..slot + frames.len()].copy_from_slice(frames);
     }
@@ -124,7 +136,11 @@ impl Pool {
     pub(crate) fn give(&mut self, chunk: u32)
         requires taken { IsTaken self.old chunk }
         requires room { length self.old.free < self.old.all }
-        ensures { self.new ≡ record { store = self.old.store; free = self.old.free ++ chunk ∷ []; all = self.old.all } }
+        ensures { self.new ≡ record {
+          store = self.old.store;
+          free = self.old.free ++ chunk ∷ [];
+          all = self.old.all;
+        } }
     {
         self.given.push_reserved(chunk);
     }
@@ -133,7 +149,8 @@ impl Pool {
     pub(crate) fn take(&mut self) -> Option<u32>
         ensures store { self.new.store ≡ self.old.store }
         ensures all { self.new.all ≡ self.old.all }
-        ensures free { MatchOption result ((self.old.free ≡ []) × (self.new.free ≡ [])) (λ k. self.old.free ≡ self.new.free ++ k ∷ []) }
+        ensures free { MatchOption result ((self.old.free ≡ []) × (self.new.free ≡ []))
+            (λ k. self.old.free ≡ self.new.free ++ k ∷ []) }
         ensures taken { IfSome result (λ k. IsTaken self.new k) }
     {
         if let Some(chunk) = self.given.pop() {

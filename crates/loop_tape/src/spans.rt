@@ -17,7 +17,8 @@ impl Tape {
         requires some { 0 < length out.old }
         requires below { address + length out.old ≤ self.now.len }
         requires within { address % chunk_frames + length out.old ≤ chunk_frames }
-        ensures { (k : ℕ) → k < length out.old → get_or out.new k silence ≡ at self.now pool.now (address + k) }
+        ensures { (k : ℕ) → k < length out.old →
+            get_or out.new k silence ≡ at self.now pool.now (address + k) }
     {
         let slot = self.slot_of(pool, address);
         out.copy_from_slice(pool.frames(slot, out.len()));
@@ -28,7 +29,8 @@ impl Tape {
     pub fn read_forward(&self, pool: &Pool, address: u32, out: &mut [Frame])
         requires owns { Owns self.now pool.now }
         requires below { address + length out.old ≤ self.now.len }
-        ensures { (k : ℕ) → k < length out.old → get_or out.new k silence ≡ at self.now pool.now (address + k) }
+        ensures { (k : ℕ) → k < length out.old →
+            get_or out.new k silence ≡ at self.now pool.now (address + k) }
     {
         let _length = self.len();
         let mut done = 0;
@@ -47,7 +49,8 @@ impl Tape {
         requires some { 0 < length out.old }
         requires below { address < self.now.len }
         requires within { length out.old ≤ address % chunk_frames + 1 }
-        ensures { (k : ℕ) → k < length out.old → get_or out.new k silence ≡ at self.now pool.now (address - k) }
+        ensures { (k : ℕ) → k < length out.old →
+            get_or out.new k silence ≡ at self.now pool.now (address - k) }
     {
         let slot = self.slot_of(pool, address);
         let count = out.len();
@@ -57,13 +60,15 @@ impl Tape {
         }
     }
 
-    /// Copies the frames from an address down, as many as `out` has: that of `address` first, then that below it.
+    /// Copies the frames from an address down, as many as `out` has: that of `address` first, then
+    /// that below it.
     #[tactic(auto, using(crate::proofs::SpanLemmas::spans))]
     pub fn read_backward(&self, pool: &Pool, address: u32, out: &mut [Frame])
         requires owns { Owns self.now pool.now }
         requires below { address < self.now.len }
         requires within { length out.old ≤ address + 1 }
-        ensures { (k : ℕ) → k < length out.old → get_or out.new k silence ≡ at self.now pool.now (address - k) }
+        ensures { (k : ℕ) → k < length out.old →
+            get_or out.new k silence ≡ at self.now pool.now (address - k) }
     {
         let mut done = 0;
         while done < out.len() {

@@ -30,7 +30,9 @@ impl Model for Tape {
 
     ghost view = { λ t. record { chunks = t.chunks.items; len = t.len; room = t.room } };
 
-    ghost invariant = { λ t. (length t.chunks.items ≡ (t.len + 4095) / chunk_frames) × (length t.chunks.items ≤ t.room) × (t.room ≤ vec_capacity t.chunks) × (t.room ≤ max_chunks) };
+    ghost invariant = { λ t. (length t.chunks.items ≡ (t.len + 4095) / chunk_frames)
+        × (length t.chunks.items ≤ t.room) × (t.room ≤ vec_capacity t.chunks)
+        × (t.room ≤ max_chunks) };
 }
 
 impl Tape {
@@ -117,7 +119,8 @@ impl Tape {
         self.len += 1;
     }
 
-    /// Puts a frame behind the others, at the begin of a chunk that was free. False where none is free.
+    /// Puts a frame behind the others, at the begin of a chunk that was free. False where none is
+    /// free.
     #[tactic(auto, using(crate::proofs::SlotLemmas::pushes))]
     fn push_chunk(&mut self, pool: &mut Pool, frame: Frame) -> bool
         requires owns { Owns self.old pool.old }
@@ -141,7 +144,8 @@ impl Tape {
     /// Puts a frame behind the others. False where that needs a chunk and none is free.
     pub fn push(&mut self, pool: &mut Pool, frame: Frame) -> bool
         requires owns { Owns self.old pool.old }
-        ensures full { IsFalse result ↔ ((self.old.len % chunk_frames ≡ 0) × (length pool.old.free ≡ 0)) }
+        ensures full { IsFalse result ↔
+            ((self.old.len % chunk_frames ≡ 0) × (length pool.old.free ≡ 0)) }
         ensures unchanged { IsFalse result → (self.new ≡ self.old) × (pool.new ≡ pool.old) }
         ensures ok { IsTrue result → Pushed self.old self.new pool.old pool.new frame }
     {
@@ -220,7 +224,8 @@ impl Tape {
         }
     }
 
-    /// Keeps the first frames, and gives back every chunk past them. `length` is at most the tape's.
+    /// Keeps the first frames, and gives back every chunk past them. `length` is at most the
+    /// tape's.
     #[tactic(auto, using(crate::proofs::CutLemmas::cuts))]
     pub fn cut_to(&mut self, pool: &mut Pool, length: u32)
         requires owns { Owns self.old pool.old }

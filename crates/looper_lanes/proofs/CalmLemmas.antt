@@ -46,7 +46,8 @@ span_of_frame frame xs l one quiet =
     record {
       quiet = quiet;
       calm =
-          λ x rest is. calm_none frame x rest l (let sum : length xs ≡ length (x ∷ rest) = ap length is
+          λ x rest is. calm_none frame x rest l (let sum : length xs ≡ length (x ∷ rest) =
+          ap length is
           in omega arith);
     }
   where

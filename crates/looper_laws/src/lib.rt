@@ -1,19 +1,21 @@
-//! What holds of the looper's rules: laws of the definitions in `looper_rules`, each the contract of a function with an
-//! empty body.
+//! What holds of the looper's rules: laws of the definitions in `looper_rules`, each the contract
+//! of a function with an empty body.
 //!
 //! - `cut_runs`: a run may be cut into two at any frame and at any entry.
 //! - `replies`: one frame comes out for each that goes in, and replies answer gets and saves.
 //! - `saved_lists`: a save has the lists at its entry's place, whatever follows.
-//! - `sent_saves`: each save is one whose blocks may follow, and blocks that may follow are those of saves.
+//! - `sent_saves`: each save is one whose blocks may follow, and blocks that may follow are those
+//!   of saves.
 //! - `standing_pins`: the pins that stand are those of the saves that no release has answered.
-//! - `reached`: what always holds of every loop and looper that a run reaches, and what each step keeps of it.
+//! - `reached`: what always holds of every loop and looper that a run reaches, and what each step
+//!   keeps of it.
 //! - `other_layers`: nothing changes a layer but the current one.
 //! - `undoing`: undo and redo give back what stood before.
 //! - `shared_room`: loops share the chunks.
 //! - `spans`: a span of frames may be played one loop after another.
 //!
-//! `specs/` has the words that only these laws need. The proofs stand in `proofs/`, a folder a notion. The rules are
-//! docs/rules.md, and docs/proved.md says which folder carries which law.
+//! `specs/` has the words that only these laws need. The proofs stand in `proofs/`, a folder a
+//! notion. The rules are docs/rules.md, and docs/proved.md says which folder carries which law.
 #![tactic(auto)]
 
 mod cut_runs;

@@ -30,7 +30,8 @@ pub clear_fewer : (g : Globals) (frame : ℕ) (faces : List Face) (count fewer :
 clear_fewer g frame faces count fewer t le c =
     record {
       clear =
-          clear_either g frame faces count fewer t.loop.controls.quantize (t.loop.deck.waiting ≡ None) le
+          clear_either g frame faces count fewer t.loop.controls.quantize
+          (t.loop.deck.waiting ≡ None) le
           c.clear;
     }
 

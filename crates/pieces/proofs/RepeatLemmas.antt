@@ -14,10 +14,12 @@ solid-drop zero ps s = s
 solid-drop (suc k) [] s = tt
 solid-drop (suc k) (p ∷ ps) s = solid-drop k ps s.1
 
-pub length-repeated : (first count : ℕ) (ps : List Piece) → first + count ≤ length ps → length (repeated first count ps) ≡ length ps + count
+pub length-repeated : (first count : ℕ) (ps : List Piece) → first + count ≤ length ps →
+    length (repeated first count ps) ≡ length ps + count
 length-repeated first count ps le =
     let d = length-drop first ps in
-    let t : length (take count (drop first ps)) ≡ count = length-take-le count (drop first ps) (omega (arith, d, le)) in
+    let t : length (take count (drop first ps)) ≡ count =
+    length-take-le count (drop first ps) (omega (arith, d, le)) in
     let a = length-append ps (take count (drop first ps)) in
     omega (arith, a, t)
 

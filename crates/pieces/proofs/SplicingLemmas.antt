@@ -8,25 +8,36 @@ use Rattle.pieces.proofs.AddressLemmas.{addresses-split, addresses-spliced, tota
 use Rattle.pieces.proofs.OneMoreLemmas.{solid-append, solid-before, solid-behind}
 
 -- a place at which the pieces before it end
-pub hint-between : (place i : ℕ) (ps qs xs : List Piece) → place ≤ total ps → xs ≡ before place ps ++ qs → i ≡ length (before place ps) → IsHint xs i place
+pub hint-between : (place i : ℕ) (ps qs xs : List Piece) → place ≤ total ps →
+    xs ≡ before place ps ++ qs → i ≡ length (before place ps) → IsHint xs i place
 hint-between place i ps qs xs le e n =
     let b = total-before place ps le in
     let l = length-append (before place ps) qs in
-    rw (e, n) (record { within = omega (arith, l); begins = rw (take-append_seam (before place ps) qs) b })
+    rw (e, n) (record {
+      within = omega (arith, l);
+      begins =
+          rw (take-append_seam (before place ps) qs) b;
+    })
 
-pub split-hint : (place i : ℕ) (ps xs : List Piece) → place ≤ total ps → xs ≡ split place ps → i ≡ length (before place ps) → IsHint xs i place
+pub split-hint : (place i : ℕ) (ps xs : List Piece) → place ≤ total ps → xs ≡ split place ps →
+    i ≡ length (before place ps) → IsHint xs i place
 split-hint place i ps xs le e n = hint-between place i ps (behind place ps) xs le e n
 
-pub split-begins : (place i : ℕ) (ps xs : List Piece) → place ≤ total ps → xs ≡ split place ps → i ≡ length (before place ps) → total (take i xs) ≡ place
+pub split-begins : (place i : ℕ) (ps xs : List Piece) → place ≤ total ps → xs ≡ split place ps →
+    i ≡ length (before place ps) → total (take i xs) ≡ place
 split-begins place i ps xs le e n = (split-hint place i ps xs le e n).begins
 
 pub split-solid : (place : ℕ) (ps : List Piece) → Solid ps → Solid (split place ps)
-split-solid place ps s = solid-append (before place ps) (behind place ps) (solid-before place ps s) (solid-behind place ps s)
+split-solid place ps s = solid-append (before place ps) (behind place ps) (solid-before place ps s)
+    (solid-behind place ps s)
 
-pub spliced-hint : (place count i : ℕ) (p : Piece) (ps xs : List Piece) → place + count ≤ total ps → xs ≡ spliced place count p ps → i ≡ length (before place ps) → IsHint xs i place
-spliced-hint place count i p ps xs le e n = hint-between place i ps (p ∷ behind count (behind place ps)) xs (omega (arith, le)) e n
+pub spliced-hint : (place count i : ℕ) (p : Piece) (ps xs : List Piece) → place + count ≤ total ps →
+    xs ≡ spliced place count p ps → i ≡ length (before place ps) → IsHint xs i place
+spliced-hint place count i p ps xs le e n =
+    hint-between place i ps (p ∷ behind count (behind place ps)) xs (omega (arith, le)) e n
 
-pub spliced-total : (place count : ℕ) (p : Piece) (ps : List Piece) → place + count ≤ total ps → total (spliced place count p ps) + count ≡ total ps + p.len
+pub spliced-total : (place count : ℕ) (p : Piece) (ps : List Piece) → place + count ≤ total ps →
+    total (spliced place count p ps) + count ≡ total ps + p.len
 spliced-total place count p ps le =
     let b = total-before place ps (omega (arith, le)) in
     let h = total-behind place ps (omega (arith, le)) in
@@ -34,7 +45,20 @@ spliced-total place count p ps le =
     let a = total-append (before place ps) (p ∷ behind count (behind place ps)) in
     omega (arith, b, h, g, a)
 
-pub spliced-solid : (place count : ℕ) (p : Piece) (ps : List Piece) → 1 ≤ p.len → Solid ps → Solid (spliced place count p ps)
-spliced-solid place count p ps some s = solid-append (before place ps) (p ∷ behind count (behind place ps)) (solid-before place ps s) (some, solid-behind count (behind place ps) (solid-behind place ps s))
+pub spliced-solid : (place count : ℕ) (p : Piece) (ps : List Piece) → 1 ≤ p.len → Solid ps →
+    Solid (spliced place count p ps)
+spliced-solid place count p ps some s =
+    solid-append (before place ps) (p ∷ behind count (behind place ps)) (solid-before place ps s)
+    (some, solid-behind count (behind place ps) (solid-behind place ps s))
 
-pub ruleset calls = (split-hint, split-begins, split-solid, addresses-split, total-split, spliced-hint, spliced-total, spliced-solid, addresses-spliced)
+pub ruleset calls = (
+  split-hint,
+  split-begins,
+  split-solid,
+  addresses-split,
+  total-split,
+  spliced-hint,
+  spliced-total,
+  spliced-solid,
+  addresses-spliced,
+)

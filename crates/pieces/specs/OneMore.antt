@@ -1,6 +1,7 @@
 -- One address more, in place of another or before it, or behind all of them.
--- Where the piece before it goes on to that address, this piece grows, and no piece is added. Backward it is the piece
--- behind it that grows. So a run of such writes at addresses in order adds pieces at its first write alone.
+-- Where the piece before it goes on to that address, this piece grows, and no piece is added.
+-- Backward it is the piece behind it that grows. So a run of such writes at addresses in order adds
+-- pieces at its first write alone.
 -- "Pieces" in docs/rules.md.
 use Rattle.std.specs.Prelude.{◌≡◌, ◌≤◌, ℕ, zero, suc, ◌+◌, ◌==◌, List, [], ◌∷◌, ◌++◌, Bool, true, false, if◌then◌else◌, IsTrue, not, ◌||◌, ◌&&◌}
 use Rattle.pieces.specs.Pieces.{Piece, total}
@@ -67,7 +68,8 @@ overwritten place a ps = joined a (before place ps) ++ behind 1 (behind place ps
 -- the same for so many places and addresses in a row
 abbrev pub overwritten_span : ℕ → ℕ → ℕ → List Piece → List Piece
 overwritten_span zero place a ps = ps
-overwritten_span (suc k) place a ps = overwritten_span k (place + 1) (a + 1) (overwritten place a ps)
+overwritten_span (suc k) place a ps =
+    overwritten_span k (place + 1) (a + 1) (overwritten place a ps)
 
 -- the same, where it goes on with what stands behind it
 abbrev pub overwritten_backward : ℕ → ℕ → List Piece → List Piece

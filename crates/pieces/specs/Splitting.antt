@@ -15,12 +15,14 @@ back k p = record { start = address_in p k; len = p.len - k; backward = p.backwa
 -- the pieces before a place
 abbrev pub before : ℕ → List Piece → List Piece
 before place [] = []
-before place (p ∷ ps) = if nat_lt place p.len then (if place == 0 then [] else front place p ∷ []) else p ∷ before (place - p.len) ps
+before place (p ∷ ps) = if nat_lt place p.len then
+    (if place == 0 then [] else front place p ∷ []) else p ∷ before (place - p.len) ps
 
 -- the pieces from a place on
 abbrev pub behind : ℕ → List Piece → List Piece
 behind place [] = []
-behind place (p ∷ ps) = if nat_lt place p.len then (if place == 0 then p ∷ ps else back place p ∷ ps) else behind (place - p.len) ps
+behind place (p ∷ ps) = if nat_lt place p.len then
+    (if place == 0 then p ∷ ps else back place p ∷ ps) else behind (place - p.len) ps
 
 -- the pieces, of which one begins at the place
 abbrev pub split : ℕ → List Piece → List Piece
@@ -29,7 +31,8 @@ split place ps = before place ps ++ behind place ps
 -- how many pieces lie wholly before a place
 abbrev pub pieces_before : ℕ → List Piece → ℕ
 pieces_before place [] = 0
-pieces_before place (p ∷ ps) = if nat_lt place p.len then 0 else pieces_before (place - p.len) ps + 1
+pieces_before place (p ∷ ps) = if nat_lt place p.len then 0 else
+    pieces_before (place - p.len) ps + 1
 
 -- how far into its piece a place lies
 abbrev pub offset : ℕ → List Piece → ℕ

@@ -9,7 +9,8 @@ use crate::find::Hint;
 use crate::list::PieceList;
 use crate::piece::Piece;
 
-/// Has a piece begin at the place, and gives its index: at the end of the list the number of pieces.
+/// Has a piece begin at the place, and gives its index: at the end of the list the number of
+/// pieces.
 #[tactic(auto, using(crate::proofs::OneMoreLemmas::lengths, crate::proofs::SplicingLemmas::calls))]
 pub fn split_at(list: &mut PieceList, place: u32) -> usize
     requires place { place ≤ total_of list.old.items }
@@ -34,7 +35,8 @@ pub fn splice(list: &mut PieceList, place: u32, count: u32, piece: Piece)
     requires short { total_of list.old.items + piece.len < 2 ^ 32 + count }
     requires room { length (spliced place count piece list.old.items) ≤ list.old.room }
     ensures pieces { list.new ≡ holding (spliced place count piece list.old.items) list.old }
-    ensures addresses { addresses list.new.items ≡ replaced place count (piece_addresses piece) (addresses list.old.items) }
+    ensures addresses { addresses list.new.items ≡ replaced place count (piece_addresses piece)
+        (addresses list.old.items) }
 {
     let index = splice_vec(&mut list.pieces, list.hint, place, count, piece);
     list.total = list.total - count + piece.len();
@@ -64,7 +66,8 @@ pub fn repeat(list: &mut PieceList, first: usize, count: usize)
     requires room { length list.old.items + count ≤ list.old.room }
     requires short { total_of (repeated first count list.old.items) < 2 ^ 32 }
     ensures pieces { list.new ≡ holding (repeated first count list.old.items) list.old }
-    ensures addresses { addresses list.new.items ≡ addresses list.old.items ++ addresses (take count (drop first list.old.items)) }
+    ensures addresses { addresses list.new.items ≡ addresses list.old.items
+        ++ addresses (take count (drop first list.old.items)) }
 {
     let more = total_in(&list.pieces[first..first + count]);
     push_again(&mut list.pieces, first, count);

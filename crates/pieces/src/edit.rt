@@ -37,7 +37,8 @@ pub fn push_all(pieces: &mut Vec<Piece>, list: &[Piece])
 pub(crate) fn push_again(pieces: &mut Vec<Piece>, first: usize, count: usize)
     requires within { first + count ≤ length pieces.old.items }
     requires room { length pieces.old.items + count ≤ vec_capacity pieces.old }
-    ensures items { pieces.new.items ≡ pieces.old.items ++ take count (drop first pieces.old.items) }
+    ensures items { pieces.new.items ≡ pieces.old.items
+        ++ take count (drop first pieces.old.items) }
     ensures capacity { vec_capacity pieces.old ≤ vec_capacity pieces.new }
 {
     for i in 0..count {

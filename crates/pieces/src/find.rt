@@ -6,8 +6,8 @@ ghost use Rattle.pieces.specs.Splitting.{IsHint, IsInside, offset, pieces_before
 
 use crate::piece::Piece;
 
-/// Where some piece of a list begins: its index, and the place of its first address. At the end of the list both are the
-/// numbers of pieces and of addresses.
+/// Where some piece of a list begins: its index, and the place of its first address. At the end of
+/// the list both are the numbers of pieces and of addresses.
 #[derive(Clone, Copy)]
 pub struct Hint {
     pub piece: usize,
@@ -75,7 +75,8 @@ fn walk_on(list: &[Piece], hint: Hint, place: u32) -> Hint
     ensures reached { result.begin ≤ place }
     ensures end { result.piece ≡ length list.now → place ≡ total_of list.now }
     ensures last { result.begin < place → result.piece < length list.now }
-    ensures inside { result.piece < length list.now → IsInside list.now result.piece (place - result.begin) }
+    ensures inside { result.piece < length list.now →
+        IsInside list.now result.piece (place - result.begin) }
 {
     let mut at = place - hint.begin;
     let mut i = hint.piece;
@@ -89,8 +90,8 @@ fn walk_on(list: &[Piece], hint: Hint, place: u32) -> Hint
     }
 }
 
-/// The piece in which a place lies, sought from a hint on or back: a place near the hint costs the pieces between.
-/// At the end of the list it is the end.
+/// The piece in which a place lies, sought from a hint on or back: a place near the hint costs the
+/// pieces between. At the end of the list it is the end.
 pub fn find_from(list: &[Piece], hint: Hint, place: u32) -> Hint
     requires hint { IsHint list.now hint.piece hint.begin }
     requires place { place ≤ total_of list.now }
@@ -100,7 +101,8 @@ pub fn find_from(list: &[Piece], hint: Hint, place: u32) -> Hint
     ensures reached { result.begin ≤ place }
     ensures end { result.piece ≡ length list.now → place ≡ total_of list.now }
     ensures last { result.begin < place → result.piece < length list.now }
-    ensures inside { result.piece < length list.now → IsInside list.now result.piece (place - result.begin) }
+    ensures inside { result.piece < length list.now →
+        IsInside list.now result.piece (place - result.begin) }
 {
     walk_on(list, walk_back(list, hint, place), place)
 }
@@ -125,7 +127,8 @@ pub fn address_of(list: &[Piece], place: u32) -> u32
     address_from(list, Hint::front(), place)
 }
 
-/// The run of addresses from a place on, at most `count` of them, and no further than its piece goes.
+/// The run of addresses from a place on, at most `count` of them, and no further than its piece
+/// goes.
 #[tactic(auto, using(crate::proofs::RunLemmas::runs))]
 pub fn run_from(list: &[Piece], hint: Hint, place: u32, count: u32) -> Piece
     requires hint { IsHint list.now hint.piece hint.begin }

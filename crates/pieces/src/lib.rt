@@ -1,10 +1,15 @@
 //! Lists of pieces: runs of addresses, one behind the other, that stand for a list of addresses.
 //!
-//! - A piece has at least one address, and goes forward or backward. All its addresses lie within 0 and 4294967295.
-//! - `PieceList` has room for a number of pieces, which is taken when it is made. No other call takes memory.
-//! - Each edit says the list of addresses afterwards, as the plain edit of a list, and the very pieces.
-//! - One address more grows the piece that it goes on from. So a run of writes in order adds pieces at its first alone.
-//! - A list keeps a hint: where it was worked on last. What is read or written in order is found from there.
+//! - A piece has at least one address, and goes forward or backward. All its addresses lie within 0
+//!   and 4294967295.
+//! - `PieceList` has room for a number of pieces, which is taken when it is made. No other call
+//!   takes memory.
+//! - Each edit says the list of addresses afterwards, as the plain edit of a list, and the very
+//!   pieces.
+//! - One address more grows the piece that it goes on from. So a run of writes in order adds pieces
+//!   at its first alone.
+//! - A list keeps a hint: where it was worked on last. What is read or written in order is found
+//!   from there.
 //!
 //! Begin with `piece`, then `list` and `calls`; `find` seeks places, `edit` works on the vector.
 //! The rules are "Pieces" in docs/rules.md.

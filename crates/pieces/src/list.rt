@@ -10,7 +10,9 @@ ghost use Rattle.pieces.specs.Splitting.{IsHint};
 use crate::edit::{push_all, total_in};
 use crate::find::{Hint, address_from, find_from, nearest};
 use crate::piece::Piece;
-use crate::replace::{append_vec, insert_vec, move_border_by, overwrite_vec, overwrite_vec_backward};
+use crate::replace::{
+    append_vec, insert_vec, move_border_by, overwrite_vec, overwrite_vec_backward,
+};
 use sl_base::Memory;
 use std::alloc::Global;
 use std::marker::Model;
@@ -70,7 +72,8 @@ impl PieceList {
         self.total
     }
 
-    /// The address at a place. In order, forward or backward from where the list was worked on last, nothing is sought.
+    /// The address at a place. In order, forward or backward from where the list was worked on
+    /// last, nothing is sought.
     #[tactic(auto, using(crate::proofs::OneMoreLemmas::lengths))]
     pub fn address(&self, place: u32) -> u32
         requires { place < length (addresses self.now.items) }
@@ -79,7 +82,8 @@ impl PieceList {
         address_from(&self.pieces, self.near(place), place)
     }
 
-    /// Where a search for this place, or for the end, begins: the nearest of the front, the last place worked on, and the end.
+    /// Where a search for this place, or for the end, begins: the nearest of the front, the last
+    /// place worked on, and the end.
     #[tactic(auto, using(crate::proofs::OneMoreLemmas::lengths))]
     pub fn near(&self, place: u32) -> Hint
         requires { place ≤ length (addresses self.now.items) }
@@ -127,7 +131,8 @@ impl PieceList {
         requires place { place < length (addresses self.old.items) }
         requires room { length (overwritten place address self.old.items) ≤ self.old.room }
         ensures pieces { self.new ≡ holding (overwritten place address self.old.items) self.old }
-        ensures addresses { addresses self.new.items ≡ slice_set (addresses self.old.items) place address }
+        ensures addresses { addresses self.new.items ≡ slice_set (addresses self.old.items) place
+            address }
         ensures continues { Continues (place + 1) (address + 1) self.new.items }
     {
         let piece = overwrite_vec(&mut self.pieces, self.hint, place, address);
@@ -137,14 +142,15 @@ impl PieceList {
         };
     }
 
-    /// Puts addresses in a row in place of those from a place on, as many as a run that goes on takes from one piece, but not the
-    /// last of them, and at most `count`. It says how many.
+    /// Puts addresses in a row in place of those from a place on, as many as a run that goes on
+    /// takes from one piece, but not the last of them, and at most `count`. It says how many.
     #[tactic(auto, using(crate::proofs::OneMoreLemmas::lengths, crate::proofs::SpanLemmas::spans))]
     pub fn overwrite_span(&mut self, place: u32, address: u32, count: u32) -> u32
         requires within { place + count ≤ length (addresses self.old.items) }
         requires short { address + count < 2 ^ 32 }
         ensures within { result ≤ count }
-        ensures pieces { self.new ≡ holding (overwritten_span result place address self.old.items) self.old }
+        ensures pieces { self.new ≡ holding (overwritten_span result place address self.old.items)
+            self.old }
     {
         let done = move_border_by(&mut self.pieces, self.hint, place, address, count);
         self.hint.begin += done;
@@ -156,8 +162,10 @@ impl PieceList {
     pub fn overwrite_backward(&mut self, place: u32, address: u32)
         requires place { place < length (addresses self.old.items) }
         requires room { length (overwritten_backward place address self.old.items) ≤ self.old.room }
-        ensures pieces { self.new ≡ holding (overwritten_backward place address self.old.items) self.old }
-        ensures addresses { addresses self.new.items ≡ slice_set (addresses self.old.items) place address }
+        ensures pieces { self.new ≡ holding (overwritten_backward place address self.old.items)
+            self.old }
+        ensures addresses { addresses self.new.items ≡ slice_set (addresses self.old.items) place
+            address }
         ensures continues { ContinuesBackward place (address + 1) self.new.items }
     {
         let piece = overwrite_vec_backward(&mut self.pieces, self.hint, place, address);
@@ -174,7 +182,8 @@ impl PieceList {
         requires short { length (addresses self.old.items) + 1 < 2 ^ 32 }
         requires room { length (inserted place address self.old.items) ≤ self.old.room }
         ensures pieces { self.new ≡ holding (inserted place address self.old.items) self.old }
-        ensures addresses { addresses self.new.items ≡ insert (addresses self.old.items) place address }
+        ensures addresses { addresses self.new.items ≡ insert (addresses self.old.items) place
+            address }
         ensures continues { Continues (place + 1) (address + 1) self.new.items }
     {
         let piece = insert_vec(&mut self.pieces, self.hint, place, address);
@@ -192,7 +201,8 @@ impl PieceList {
         requires room { length (joined address self.old.items) ≤ self.old.room }
         ensures pieces { self.new ≡ holding (joined address self.old.items) self.old }
         ensures addresses { addresses self.new.items ≡ addresses self.old.items ++ address ∷ [] }
-        ensures continues { Continues (length (addresses self.old.items) + 1) (address + 1) self.new.items }
+        ensures continues { Continues (length (addresses self.old.items) + 1) (address + 1)
+            self.new.items }
     {
         let piece = append_vec(&mut self.pieces, address);
         self.total += 1;
@@ -209,7 +219,8 @@ impl PieceList {
         requires room { length self.old.items + length pieces.now ≤ self.old.room }
         requires short { length (addresses self.old.items) + length (addresses pieces.now) < 2 ^ 32 }
         ensures pieces { self.new ≡ holding (self.old.items ++ pieces.now) self.old }
-        ensures addresses { addresses self.new.items ≡ addresses self.old.items ++ addresses pieces.now }
+        ensures addresses { addresses self.new.items ≡ addresses self.old.items
+            ++ addresses pieces.now }
     {
         let more = total_in(pieces);
         push_all(&mut self.pieces, pieces);

@@ -7,7 +7,8 @@ ghost use Rattle.pieces.specs.Splitting.{back as back_of, front as front_of};
 
 use std::marker::Model;
 
-/// A run of addresses: `start`, `start + 1` and so on, or `start`, `start - 1` and so on where it is backward.
+/// A run of addresses: `start`, `start + 1` and so on, or `start`, `start - 1` and so on where it
+/// is backward.
 #[derive(Clone, Copy, PartialEq, Eq)]
 pub struct Piece {
     pub start: u32,
@@ -22,7 +23,8 @@ impl Model for Piece {
 
     ghost view = { λ p. record { start = p.start; len = p.len; backward = p.backward } };
 
-    ghost invariant = { λ p. IsPiece (record { start = p.start; len = p.len; backward = p.backward }) };
+    ghost invariant = { λ p.
+        IsPiece (record { start = p.start; len = p.len; backward = p.backward }) };
 
     ghost inverse = { λ p. record { start = p.start; len = p.len; backward = p.backward } };
 }
@@ -100,7 +102,8 @@ impl Piece {
         }
     }
 
-    /// The piece with so many addresses behind its last. Only a piece that goes on to them grows so.
+    /// The piece with so many addresses behind its last. Only a piece that goes on to them grows
+    /// so.
     pub fn grown_by(self, count: u32) -> Piece
         requires short { self.len + count < 2 ^ 32 }
         requires within { self.start + self.len + count ≤ 2 ^ 32 }

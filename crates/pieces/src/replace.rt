@@ -15,7 +15,8 @@ use crate::piece::Piece;
 fn shorten(pieces: &mut Vec<Piece>, index: usize)
     requires index { index < length pieces.old.items }
     requires solid { Solid (drop index pieces.old.items) }
-    ensures items { pieces.new.items ≡ take index pieces.old.items ++ behind 1 (drop index pieces.old.items) }
+    ensures items { pieces.new.items ≡ take index pieces.old.items
+        ++ behind 1 (drop index pieces.old.items) }
     ensures capacity { vec_capacity pieces.old ≤ vec_capacity pieces.new }
     ensures shorter { vec_len pieces.new ≤ vec_len pieces.old }
 {
@@ -27,15 +28,16 @@ fn shorten(pieces: &mut Vec<Piece>, index: usize)
     }
 }
 
-/// Takes the address at a place out, and gives the number of pieces before it. The last address of a piece is taken with
-/// no move of the pieces behind it.
+/// Takes the address at a place out, and gives the number of pieces before it. The last address of
+/// a piece is taken with no move of the pieces behind it.
 #[tactic(auto, using(crate::proofs::SplittingLemmas::splits, crate::proofs::OneMoreLemmas::overs))]
 fn take_out(pieces: &mut Vec<Piece>, hint: Hint, place: u32) -> usize
     requires hint { IsHint pieces.old.items hint.piece hint.begin }
     requires place { place < total_of pieces.old.items }
     requires solid { Solid pieces.old.items }
     requires room { vec_len pieces.old < vec_capacity pieces.old }
-    ensures items { pieces.new.items ≡ before place pieces.old.items ++ behind 1 (behind place pieces.old.items) }
+    ensures items { pieces.new.items ≡ before place pieces.old.items
+        ++ behind 1 (behind place pieces.old.items) }
     ensures index { result ≡ length (before place pieces.old.items) }
     ensures longer { vec_len pieces.new ≤ vec_len pieces.old + 1 }
     ensures capacity { vec_capacity pieces.old ≤ vec_capacity pieces.new }
@@ -62,7 +64,8 @@ fn join(pieces: &mut Vec<Piece>, index: usize, address: u32) -> usize
     requires index { index ≤ length pieces.old.items }
     requires room { vec_len pieces.old < vec_capacity pieces.old }
     requires short { total_of pieces.old.items + 1 < 2 ^ 32 }
-    ensures items { pieces.new.items ≡ joined address (take index pieces.old.items) ++ drop index pieces.old.items }
+    ensures items { pieces.new.items ≡ joined address (take index pieces.old.items)
+        ++ drop index pieces.old.items }
     ensures index { result ≡ length (joined address (take index pieces.old.items)) }
     ensures capacity { vec_capacity pieces.old ≤ vec_capacity pieces.new }
 {
@@ -83,7 +86,8 @@ fn grow(pieces: &mut Vec<Piece>, index: usize, address: u32) -> bool
     requires index { index ≤ length pieces.old.items }
     requires short { total_of pieces.old.items + 1 < 2 ^ 32 }
     ensures unchanged { IsFalse result → pieces.new ≡ pieces.old }
-    ensures items { IsTrue result → pieces.new.items ≡ joined address (take index pieces.old.items) ++ drop index pieces.old.items }
+    ensures items { IsTrue result → pieces.new.items ≡ joined address (take index pieces.old.items)
+        ++ drop index pieces.old.items }
     ensures index { IsTrue result → index ≡ length (joined address (take index pieces.old.items)) }
     ensures capacity { vec_capacity pieces.old ≤ vec_capacity pieces.new }
 {
@@ -104,7 +108,8 @@ fn join_before(pieces: &mut Vec<Piece>, index: usize, address: u32)
     requires index { index ≤ length pieces.old.items }
     requires room { vec_len pieces.old < vec_capacity pieces.old }
     requires short { total_of pieces.old.items + 1 < 2 ^ 32 }
-    ensures items { pieces.new.items ≡ take index pieces.old.items ++ joined_before address (drop index pieces.old.items) }
+    ensures items { pieces.new.items ≡ take index pieces.old.items
+        ++ joined_before address (drop index pieces.old.items) }
     ensures capacity { vec_capacity pieces.old ≤ vec_capacity pieces.new }
 {
     if index < pieces.len() {
@@ -117,8 +122,8 @@ fn join_before(pieces: &mut Vec<Piece>, index: usize, address: u32)
     put(pieces, index, Piece::one(address));
 }
 
-/// Where the piece that begins at a place has more addresses than that there, and the one before it goes on to the address:
-/// moves the border between them by one. Else nothing changes.
+/// Where the piece that begins at a place has more addresses than that there, and the one before it
+/// goes on to the address: moves the border between them by one. Else nothing changes.
 #[tactic(auto, using(crate::proofs::BorderLemmas::over))]
 fn move_border(pieces: &mut Vec<Piece>, hint: Hint, place: u32, address: u32) -> bool
     requires hint { IsHint pieces.old.items hint.piece hint.begin }
@@ -127,7 +132,8 @@ fn move_border(pieces: &mut Vec<Piece>, hint: Hint, place: u32, address: u32) ->
     requires solid { Solid pieces.old.items }
     ensures unchanged { IsFalse result → pieces.new ≡ pieces.old }
     ensures items { IsTrue result → pieces.new.items ≡ overwritten place address pieces.old.items }
-    ensures index { IsTrue result → hint.piece ≡ length (joined address (before place pieces.old.items)) }
+    ensures index { IsTrue result →
+        hint.piece ≡ length (joined address (before place pieces.old.items)) }
     ensures capacity { vec_capacity pieces.old ≤ vec_capacity pieces.new }
 {
     let index = hint.piece;
@@ -144,8 +150,9 @@ fn move_border(pieces: &mut Vec<Piece>, hint: Hint, place: u32, address: u32) ->
     true
 }
 
-/// Where the piece before a place goes on to the address, and the one that begins there has more addresses than one: moves the
-/// border between them by as many as it can, at most `count`, and says by how many.
+/// Where the piece before a place goes on to the address, and the one that begins there has more
+/// addresses than one: moves the border between them by as many as it can, at most `count`, and
+/// says by how many.
 #[tactic(auto, using(crate::proofs::SpanLemmas::spans))]
 pub(crate) fn move_border_by(
     pieces: &mut Vec<Piece>,
@@ -181,7 +188,8 @@ pub(crate) fn move_border_by(
     most
 }
 
-/// The same backward: the piece that ends at a place loses that address, and the one behind it grows in front.
+/// The same backward: the piece that ends at a place loses that address, and the one behind it
+/// grows in front.
 #[tactic(auto, using(crate::proofs::BorderLemmas::down))]
 fn move_border_down(pieces: &mut Vec<Piece>, hint: Hint, place: u32, address: u32) -> bool
     requires hint { IsHint pieces.old.items hint.piece hint.begin }
@@ -189,7 +197,8 @@ fn move_border_down(pieces: &mut Vec<Piece>, hint: Hint, place: u32, address: u3
     requires short { total_of pieces.old.items < 2 ^ 32 }
     requires solid { Solid pieces.old.items }
     ensures unchanged { IsFalse result → pieces.new ≡ pieces.old }
-    ensures items { IsTrue result → pieces.new.items ≡ overwritten_backward place address pieces.old.items }
+    ensures items { IsTrue result →
+        pieces.new.items ≡ overwritten_backward place address pieces.old.items }
     ensures index { IsTrue result → hint.piece ≡ length (before place pieces.old.items) }
     ensures capacity { vec_capacity pieces.old ≤ vec_capacity pieces.new }
 {

@@ -27,33 +27,46 @@ other_than n m differ = go (n == m) refl
 
 -- a frame of two channels, side by side
 pub frame_of_two :
-    (channels bits : ℕ) (bytes behind : List ℕ) (left right : ℤ) (frame : Sound) → channels ≢ 1 → left ≡ sample_at bits bytes
-    → behind ≡ drop (bits / 8) bytes → right ≡ sample_at bits behind → frame ≡ record { left = left; right = right }
+    (channels bits : ℕ) (bytes behind : List ℕ) (left right : ℤ) (frame : Sound) → channels ≢ 1 →
+    left ≡ sample_at bits bytes
+    → behind ≡ drop (bits / 8) bytes → right ≡ sample_at bits behind →
+    frame ≡ record { left = left; right = right }
     → frame ≡ frame_at channels bits bytes
 frame_of_two channels bits bytes behind left right frame two left_is behind_is right_is frame_is =
     frame_is
     ∙ ap (λ (l : ℤ). record { left = l; right = right }) left_is
-    ∙ ap (λ (r : ℤ). record { left = sample_at bits bytes; right = r }) (right_is ∙ ap (sample_at bits) behind_is)
-    ∙ sym (ap (λ (one : Bool). if one then both (sample_at bits bytes) else record { left = sample_at bits bytes; right = sample_at bits (drop (bits / 8) bytes) }) (other_than channels 1 two))
+    ∙ ap (λ (r : ℤ). record { left = sample_at bits bytes; right = r })
+    (right_is ∙ ap (sample_at bits) behind_is)
+    ∙ sym (ap (λ (one : Bool). if one then both (sample_at bits bytes) else
+    record { left = sample_at bits bytes; right = sample_at bits (drop (bits / 8) bytes) })
+    (other_than channels 1 two))
 
 -- one frame more is read over those that stood there
 pub frames_in-more_set :
-    (channels bits count place : ℕ) (bytes : List ℕ) (frames whole : List Sound) (frame : Sound) → place < length frames
-    → length frames ≡ count → frame ≡ frame_at channels bits (drop (place * frame_size channels bits) bytes)
-    → take place frames ++ frames_in channels bits (count - place) (drop (place * frame_size channels bits) bytes) ≡ whole
-    → take (place + 1) (set frames place frame) ++ frames_in channels bits (count - (place + 1)) (drop ((place + 1) * frame_size channels bits) bytes) ≡ whole
+    (channels bits count place : ℕ) (bytes : List ℕ) (frames whole : List Sound) (frame : Sound) →
+    place < length frames
+    → length frames ≡ count →
+    frame ≡ frame_at channels bits (drop (place * frame_size channels bits) bytes)
+    → take place frames ++ frames_in channels bits (count - place)
+    (drop (place * frame_size channels bits) bytes) ≡ whole
+    → take (place + 1) (set frames place frame) ++ frames_in channels bits (count - (place + 1))
+    (drop ((place + 1) * frame_size channels bits) bytes) ≡ whole
 frames_in-more_set channels bits count place bytes frames whole frame there long frame_is so_far =
     let size : ℕ = frame_size channels bits in
     let at : List ℕ = drop (place * size) bytes in
     let left : count - place ≡ suc (count - (place + 1)) = omega (arith, there, long) in
     let next : drop size at ≡ drop ((place + 1) * size) bytes =
     drop-drop size (place * size) bytes ∙ ap (λ (n : ℕ). drop n bytes) (grind arith) in
-    let rest : frames_in channels bits (count - place) at ≡ frame ∷ frames_in channels bits (count - (place + 1)) (drop ((place + 1) * size) bytes) =
+    let rest : frames_in channels bits (count - place) at ≡ frame
+    ∷ frames_in channels bits (count - (place + 1)) (drop ((place + 1) * size) bytes) =
     ap (λ (n : ℕ). frames_in channels bits n at) left
-    ∙ ap (λ (f : Sound). f ∷ frames_in channels bits (count - (place + 1)) (drop size at)) (sym frame_is)
+    ∙ ap (λ (f : Sound). f ∷ frames_in channels bits (count - (place + 1)) (drop size at))
+    (sym frame_is)
     ∙ ap (λ (l : List ℕ). frame ∷ frames_in channels bits (count - (place + 1)) l) next in
-    ap (λ (l : List Sound). l ++ frames_in channels bits (count - (place + 1)) (drop ((place + 1) * size) bytes)) (take_more_set frames place frame there)
-    ∙ append_assoc (take place frames) (frame ∷ []) (frames_in channels bits (count - (place + 1)) (drop ((place + 1) * size) bytes))
+    ap (λ (l : List Sound). l ++ frames_in channels bits (count - (place + 1))
+    (drop ((place + 1) * size) bytes)) (take_more_set frames place frame there)
+    ∙ append_assoc (take place frames) (frame ∷ [])
+    (frames_in channels bits (count - (place + 1)) (drop ((place + 1) * size) bytes))
     ∙ ap (λ (l : List Sound). take place frames ++ l) (sym rest)
     ∙ so_far
 
@@ -66,7 +79,8 @@ signed_24 (negsuc n) within =
     let fits : n < 8388608 = omega (arith, ints, within.0) in
     let high : 8388608 ≤ 16777216 - suc n = omega (arith, fits) in
     let back : pos (16777216 - suc n) -ℤ pos 16777216 ≡ negsuc n = omega (arith, ints, fits) in
-    ap (λ (low : Bool). if low then pos (16777216 - suc n) else pos (16777216 - suc n) -ℤ pos 16777216) (not_below (16777216 - suc n) 8388608 high)
+    ap (λ (low : Bool). if low then pos (16777216 - suc n) else
+    pos (16777216 - suc n) -ℤ pos 16777216) (not_below (16777216 - suc n) 8388608 high)
     ∙ back
 
 -- its bits are a number of three bytes
@@ -79,12 +93,16 @@ sample_at-bytes :
     (bits : ℕ) (sample : ℤ) (rest : List ℕ) → (bits ≡ 16) ⊎ (bits ≡ 24) → IsSample sample
     → sample_at bits (sample_bytes bits sample ++ rest) ≡ kept_sample bits sample
 sample_at-bytes bits sample rest (inl short) within =
-    subst (λ (b : ℕ). sample_at b (sample_bytes b sample ++ rest) ≡ kept_sample b sample) (sym short)
-    (ap (λ (n : ℕ). widened (cast_signed w16 n)) (little_from-append 2 (sample_bytes 16 sample) rest (omega arith))
+    subst (λ (b : ℕ). sample_at b (sample_bytes b sample ++ rest) ≡ kept_sample b sample)
+    (sym short)
+    (ap (λ (n : ℕ). widened (cast_signed w16 n))
+    (little_from-append 2 (sample_bytes 16 sample) rest (omega arith))
     ∙ ap widened (sample_of-bytes sample within))
 sample_at-bytes bits sample rest (inr long) within =
     subst (λ (b : ℕ). sample_at b (sample_bytes b sample ++ rest) ≡ kept_sample b sample) (sym long)
-    (ap (twos_complement 3) (little_number-reads_back 3 (bits_of 24 sample) rest (bits_of_24 sample within)) ∙ signed_24 sample within)
+    (ap (twos_complement 3)
+    (little_number-reads_back 3 (bits_of 24 sample) rest (bits_of_24 sample within))
+    ∙ signed_24 sample within)
 
 -- a frame that was written is read as far as its form keeps it
 frame_at-bytes :
@@ -100,30 +118,51 @@ frame_at-bytes channels bits frame rest format within = go (channels == 1)
 
     go : (one : Bool)
         → (if one then both (sample_at bits ((if one then left else left ++ right) ++ rest))
-        else record { left = sample_at bits ((if one then left else left ++ right) ++ rest); right = sample_at bits (drop (bits / 8) ((if one then left else left ++ right) ++ rest)) })
-        ≡ (if one then both (kept_sample bits frame.left) else record { left = kept_sample bits frame.left; right = kept_sample bits frame.right })
+        else record {
+          left = sample_at bits ((if one then left else left ++ right) ++ rest);
+          right =
+              sample_at bits (drop (bits / 8) ((if one then left else left ++ right) ++ rest));
+        })
+        ≡ (if one then both (kept_sample bits frame.left) else
+        record { left = kept_sample bits frame.left; right = kept_sample bits frame.right })
     go true = ap both (sample_at-bytes bits frame.left rest format.short_or_long within.0)
     go false =
-        let grouped : (left ++ right) ++ rest ≡ left ++ (right ++ rest) = append_assoc left right rest in
-        let first = ap (sample_at bits) grouped ∙ sample_at-bytes bits frame.left (right ++ rest) format.short_or_long within.0 in
+        let grouped : (left ++ right) ++ rest ≡ left ++ (right ++ rest) =
+        append_assoc left right rest in
+        let first = ap (sample_at bits) grouped
+        ∙ sample_at-bytes bits frame.left (right ++ rest) format.short_or_long within.0 in
         let second =
         ap (λ (l : List ℕ). sample_at bits (drop (bits / 8) l)) grouped
-        ∙ ap (sample_at bits) (drop_at left (right ++ rest) (bits / 8) (length-sample_bytes channels bits frame.left format))
+        ∙ ap (sample_at bits)
+        (drop_at left (right ++ rest) (bits / 8)
+        (length-sample_bytes channels bits frame.left format))
         ∙ sample_at-bytes bits frame.right rest format.short_or_long within.1 in
-        ap (λ (l : ℤ). record { left = l; right = sample_at bits (drop (bits / 8) ((left ++ right) ++ rest)) }) first
+        ap (λ (l : ℤ). record {
+          left = l;
+          right =
+              sample_at bits (drop (bits / 8) ((left ++ right) ++ rest));
+        }) first
         ∙ ap (λ (r : ℤ). record { left = kept_sample bits frame.left; right = r }) second
 
 -- frames that were written are read as far as their form keeps them
 pub frames_in-samples :
-    (channels bits : ℕ) (frames : List Sound) (rest : List ℕ) → IsFormat channels bits → AllByRecursion IsFrame frames
-    → frames_in channels bits (length frames) (samples channels bits frames ++ rest) ≡ map (kept channels bits) frames
+    (channels bits : ℕ) (frames : List Sound) (rest : List ℕ) → IsFormat channels bits →
+    AllByRecursion IsFrame frames
+    → frames_in channels bits (length frames) (samples channels bits frames ++ rest) ≡ map
+    (kept channels bits) frames
 frames_in-samples channels bits [] rest format within = refl
 frames_in-samples channels bits (frame ∷ frames) rest format within =
     let bytes : List ℕ = frame_bytes channels bits frame in
     let behind : List ℕ = samples channels bits frames ++ rest in
-    let grouped : samples channels bits (frame ∷ frames) ++ rest ≡ bytes ++ behind = append_assoc bytes (samples channels bits frames) rest in
-    ap (λ (l : List ℕ). frame_at channels bits l ∷ frames_in channels bits (length frames) (drop (frame_size channels bits) l)) grouped
-    ∙ ap (λ (f : Sound). f ∷ frames_in channels bits (length frames) (drop (frame_size channels bits) (bytes ++ behind))) (frame_at-bytes channels bits frame behind format within.0)
+    let grouped : samples channels bits (frame ∷ frames) ++ rest ≡ bytes ++ behind =
+    append_assoc bytes (samples channels bits frames) rest in
+    ap (λ (l : List ℕ). frame_at channels bits l
+    ∷ frames_in channels bits (length frames) (drop (frame_size channels bits) l)) grouped
+    ∙ ap (λ (f : Sound). f
+    ∷ frames_in channels bits (length frames) (drop (frame_size channels bits) (bytes ++ behind)))
+    (frame_at-bytes channels bits frame behind format within.0)
     ∙ ap (λ (l : List ℕ). kept channels bits frame ∷ frames_in channels bits (length frames) l)
-    (drop_at bytes behind (frame_size channels bits) (length-frame_bytes channels bits frame format))
-    ∙ ap (λ (l : List Sound). kept channels bits frame ∷ l) (frames_in-samples channels bits frames rest format within.1)
+    (drop_at bytes behind (frame_size channels bits)
+    (length-frame_bytes channels bits frame format))
+    ∙ ap (λ (l : List Sound). kept channels bits frame ∷ l)
+    (frames_in-samples channels bits frames rest format within.1)

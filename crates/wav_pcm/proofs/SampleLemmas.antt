@@ -20,7 +20,8 @@ twos_complement_within (pos n) fits = omega (arith, fits.sfits)
 twos_complement_within (negsuc n) fits = omega arith
 
 -- a sample's bits after it is divided by 256, read again
-pub sample_of-bytes : (sample : ℤ) → IsSample sample → cast_signed w16 (little_number 2 (sample_bytes 16 sample)) ≡ narrowed sample
+pub sample_of-bytes : (sample : ℤ) → IsSample sample →
+    cast_signed w16 (little_number 2 (sample_bytes 16 sample)) ≡ narrowed sample
 sample_of-bytes sample within =
     let fits = narrowed_fits sample within in
     let number : ℕ = twos_complement 16 (narrowed sample) in

@@ -1,6 +1,7 @@
--- A WAV file that is read is `RIFF`, a size, `WAVE`, chunks none of which is named `data`, and then `data`, a size, and the samples.
--- The first of these chunks that is named `fmt ` tells the spelling. The samples are as many bytes as the size of `data`
--- says, or all that is left where that is FFFFFFFF hex, and they are whole frames.
+-- A WAV file that is read is `RIFF`, a size, `WAVE`, chunks none of which is named `data`, and then
+-- `data`, a size, and the samples. The first of these chunks that is named `fmt ` tells the
+-- spelling. The samples are as many bytes as the size of `data` says, or all that is left where
+-- that is FFFFFFFF hex, and they are whole frames.
 -- "WAV" in docs/formats.md.
 use Rattle.std.specs.Prelude.{◌≡◌, ◌≢◌, ◌≤◌, ◌⊎◌, ℕ, ◌*◌, ◌%◌, true, List, [], ◌∷◌, ◌++◌, length, codes, Option, Some, None, if◌then◌else◌}
 use Rattle.std.specs.List.{AllByRecursion}
@@ -46,7 +47,8 @@ first_format (c ∷ cs) = if bytes_eq c.name (codes "fmt ") then Some c.body els
 
 -- so many bytes of samples: those that the size says, or all that are left where it is open
 abbrev pub AreThere : ℕ → ℕ → ℕ → Type 0
-AreThere size left many = ((size ≡ open_size) × (many ≡ left)) ⊎ ((size ≢ open_size) × (size ≤ left) × (many ≡ size))
+AreThere size left many = ((size ≡ open_size) × (many ≡ left))
+    ⊎ ((size ≢ open_size) × (size ≤ left) × (many ≡ size))
 
 -- the bytes are a WAV file of this spelling and these frames
 pub record IsWav (bytes : List ℕ) (spelling : Spelling) (frames : List Sound) : Type 0 where
@@ -57,7 +59,8 @@ pub record IsWav (bytes : List ℕ) (spelling : Spelling) (frames : List Sound) 
   pub size : List ℕ
   pub size_is : length size ≡ 4
   pub left : List ℕ
-  pub spelled : bytes ≡ riff_of riff_size ++ (chunks_bytes chunks ++ (codes "data" ++ (size ++ left)))
+  pub spelled : bytes ≡ riff_of riff_size
+      ++ (chunks_bytes chunks ++ (codes "data" ++ (size ++ left)))
   pub format : List ℕ
   pub format_is : first_format chunks ≡ Some format
   pub supported : is_supported format ≡ true

@@ -1,5 +1,5 @@
--- A frame that is written and read again is what its form keeps of it: 16 bits of a sample in a form
--- of 16 bits, and the left side on both in one channel.
+-- A frame that is written and read again is what its form keeps of it: 16 bits of a sample in a
+-- form of 16 bits, and the left side on both in one channel.
 -- "WAV" in docs/formats.md.
 use Rattle.std.specs.Prelude.{ℕ, ◌==◌, if◌then◌else◌, ℤ}
 use Rattle.sl_base.specs.Arithmetic.{narrowed, widened}

@@ -1,13 +1,16 @@
 -- A file is read in this order, and the first test that fails gives its fault:
 -- - The first 12 bytes are `RIFF`, a size that isn't judged, and `WAVE`; else it is NotRiff.
--- - Chunks are walked from there: a name of four bytes, a size of four, as many bytes, and one more where the size is odd.
---   The walk stops where fewer than 8 bytes are left, at the first `data`, or at another chunk that isn't all there. The first
---   `fmt ` that was walked is the format. Without one it is NoFormat.
--- - The format has 16, 18 or 40 bytes; the tag 1, or FFFE hex with 40 bytes and the rest of the number that stands for PCM
---   from its byte 24 on; 1 or 2 channels; 16 or 24 bits; the block align that these give; a rate of 1 to 768000. Else it is
---   Unsupported. The bytes of a second aren't judged.
+-- - Chunks are walked from there: a name of four bytes, a size of four, as many bytes, and one more
+--   where the size is odd. The walk stops where fewer than 8 bytes are left, at the first `data`,
+--   or at another chunk that isn't all there. The first `fmt ` that was walked is the format.
+--   Without one it is NoFormat.
+-- - The format has 16, 18 or 40 bytes; the tag 1, or FFFE hex with 40 bytes and the rest of the
+--   number that stands for PCM from its byte 24 on; 1 or 2 channels; 16 or 24 bits; the block align
+--   that these give; a rate of 1 to 768000. Else it is Unsupported. The bytes of a second aren't
+--   judged.
 -- - The walk reached `data`; else it is NoData.
--- - As many bytes are left as the size of `data` says, or that is FFFFFFFF hex and means all that is left; else it is Truncated.
+-- - As many bytes are left as the size of `data` says, or that is FFFFFFFF hex and means all that
+--   is left; else it is Truncated.
 -- - These bytes are whole frames; else it is TornFrame.
 -- "WAV" in docs/formats.md.
 use Rattle.std.specs.Prelude.{ℕ, zero, suc, ◌+◌, ◌-◌, ◌*◌, ◌/◌, ◌%◌, ◌^◌, Bool, true, false, ◌&&◌, ◌||◌, not, ◌==◌, nat_le, nat_lt, if◌then◌else◌, List, [], ◌∷◌, length, take, drop, codes, Option, Some, None, Result, Ok, Err}
@@ -24,7 +27,8 @@ pub record Spelling : Type 0 where
   pub channels : ℕ
   pub bits : ℕ
 
--- what is read of a file but its frames: their spelling, the place of the first, and how many there are
+-- what is read of a file but its frames: their spelling, the place of the first, and how many there
+-- are
 pub record FormOf : Type 0 where
   pub spelling : Spelling
   pub start : ℕ
@@ -33,15 +37,17 @@ pub record FormOf : Type 0 where
 -- the file begins as one of RIFF WAVE does
 abbrev pub is_riff : List ℕ → Bool
 is_riff bytes =
-    nat_le 12 (length bytes) && bytes_eq (take 4 bytes) (codes "RIFF") && bytes_eq (take 4 (drop 8 bytes)) (codes "WAVE")
+    nat_le 12 (length bytes) && bytes_eq (take 4 bytes) (codes "RIFF")
+    && bytes_eq (take 4 (drop 8 bytes)) (codes "WAVE")
 
--- what a walk over chunks found: the body of the first format, and what stands behind the name of `data`
+-- what a walk over chunks found: the body of the first format, and what stands behind the name of
+-- `data`
 pub record Walk : Type 0 where
   pub format : Option (List ℕ)
   pub data_part : Option (List ℕ)
 
--- a step of the walk: it stops, it is at `data` with what stands behind the name, or it passes a chunk of this name and
--- body, with what stands behind that
+-- a step of the walk: it stops, it is at `data` with what stands behind the name, or it passes a
+-- chunk of this name and body, with what stands behind that
 pub data Step : Type 0 where
   stops : Step
   starts : List ℕ → Step
@@ -69,7 +75,8 @@ nothing_found = record { format = None; data_part = None }
 
 -- the walk with a chunk of this name and body before it: a format before others is the first
 abbrev pub behind : List ℕ → List ℕ → Walk → Walk
-behind name body walk = if bytes_eq name (codes "fmt ") then record { format = Some body; data_part = walk.data_part } else walk
+behind name body walk = if bytes_eq name (codes "fmt ") then
+    record { format = Some body; data_part = walk.data_part } else walk
 
 -- the walk by its first step, and the walk from any place on
 abbrev pub walk_by : Step → (List ℕ → Walk) → Walk
@@ -108,7 +115,8 @@ spelling_of format =
 -- the spelling is one that is read
 abbrev pub is_spelling : Spelling → Bool
 is_spelling s =
-    (s.channels == 1 || s.channels == 2) && (s.bits == 16 || s.bits == 24) && nat_le 1 s.rate && nat_le s.rate max_rate
+    (s.channels == 1 || s.channels == 2) && (s.bits == 16 || s.bits == 24) && nat_le 1 s.rate
+    && nat_le s.rate max_rate
 
 -- the format is one that is read
 abbrev pub is_supported : List ℕ → Bool
@@ -116,7 +124,8 @@ is_supported format =
     (length format == 16 || length format == 18 || length format == 40)
     && is_pcm format
     && is_spelling (spelling_of format)
-    && little_number 2 (drop 12 format) == frame_size (spelling_of format).channels (spelling_of format).bits
+    && little_number 2 (drop 12 format) == frame_size (spelling_of format).channels
+    (spelling_of format).bits
 
 -- the size that means all that is left
 abbrev pub open_size : ℕ
@@ -124,21 +133,28 @@ open_size = 2 ^ 32 - 1
 
 -- how many bytes of samples there are, by the size that is told and the bytes that are left
 abbrev pub samples_there : ℕ → ℕ → Option ℕ
-samples_there size left = if size == open_size then Some left else if nat_lt left size then None else Some size
+samples_there size left = if size == open_size then Some left else if nat_lt left size then
+    None else Some size
 
 -- the form by the bytes of a frame and how many bytes of samples there are, from a place on
 abbrev pub form_at : Spelling → ℕ → Option ℕ → Result FormOf WavFault
 form_at spelling start None = Err Truncated
 form_at spelling start (Some size) =
     if size % frame_size spelling.channels spelling.bits == 0
-    then Ok (record { spelling = spelling; start = start; count = size / frame_size spelling.channels spelling.bits })
+    then Ok (record {
+      spelling = spelling;
+      start = start;
+      count =
+          size / frame_size spelling.channels spelling.bits;
+    })
     else Err TornFrame
 
 -- the form by what stands behind the name of `data`
 abbrev pub form_behind : ℕ → Spelling → Option (List ℕ) → Result FormOf WavFault
 form_behind whole spelling None = Err NoData
 form_behind whole spelling (Some part) =
-    form_at spelling (whole - length (drop 4 part)) (samples_there (little_number 4 part) (length (drop 4 part)))
+    form_at spelling (whole - length (drop 4 part))
+    (samples_there (little_number 4 part) (length (drop 4 part)))
 
 -- the form by the walk
 abbrev pub form_by : ℕ → Option (List ℕ) → Option (List ℕ) → Result FormOf WavFault
@@ -149,5 +165,6 @@ form_by whole (Some format) part =
 -- the form of a file, or its first fault
 abbrev pub form_of : List ℕ → Result FormOf WavFault
 form_of bytes =
-    if is_riff bytes then form_by (length bytes) (walk_of (drop 12 bytes)).format (walk_of (drop 12 bytes)).data_part
+    if is_riff bytes then
+    form_by (length bytes) (walk_of (drop 12 bytes)).format (walk_of (drop 12 bytes)).data_part
     else Err NotRiff

@@ -1,7 +1,8 @@
--- Samples are read from bytes, the lowest byte first, in two's complement. A sample of 16 bits is 256 times as much in
--- 24 bits, and one of 24 bits is itself. In one channel a sample stands on both sides of its frame, in two the left comes first.
--- A frame that was written is read again as far as its form keeps it: 16 bits keep the 256th part, rounded down, and one
--- channel the left side.
+-- Samples are read from bytes, the lowest byte first, in two's complement. A sample of 16 bits is
+-- 256 times as much in 24 bits, and one of 24 bits is itself. In one channel a sample stands on
+-- both sides of its frame, in two the left comes first. A frame that was written is read again as
+-- far as its form keeps it: 16 bits keep the 256th part, rounded down, and one channel the left
+-- side.
 -- "WAV" in docs/formats.md.
 use Rattle.std.specs.Prelude.{ℕ, zero, suc, ◌*◌, ◌/◌, ◌==◌, if◌then◌else◌, ℤ, List, [], ◌∷◌, length, drop}
 use Rattle.std.specs.Int.{w16, cast_signed}
@@ -13,7 +14,8 @@ use Rattle.wav_pcm.specs.WavText.{frame_size}
 -- the sample at the front of the bytes
 abbrev pub sample_at : ℕ → List ℕ → ℤ
 sample_at bits bytes =
-    if bits == 16 then widened (cast_signed w16 (little_number 2 bytes)) else twos_complement 3 (little_number 3 bytes)
+    if bits == 16 then widened (cast_signed w16 (little_number 2 bytes)) else
+    twos_complement 3 (little_number 3 bytes)
 
 -- the frame at the front of the bytes
 abbrev pub frame_at : ℕ → ℕ → List ℕ → Sound

@@ -1,8 +1,8 @@
 -- The WAV text of frames: RIFF WAVE with plain numbers, in 1 or 2 channels of 16 or 24 bits.
 -- It begins with `RIFF`, 36 more than the size of the samples and their pad, and `WAVE`.
--- The format chunk follows: `fmt `, its size 16, the tag 1, the channels, the rate, the bytes of a second, the bytes
--- of a frame, and the bits of a sample. The data chunk follows: `data`, the size of the samples, the samples, and a
--- zero byte where that size is odd.
+-- The format chunk follows: `fmt `, its size 16, the tag 1, the channels, the rate, the bytes of a
+-- second, the bytes of a frame, and the bits of a sample. The data chunk follows: `data`, the size
+-- of the samples, the samples, and a zero byte where that size is odd.
 -- A number's lowest byte stands first. A sample below 0 is in two's complement.
 -- In 16 bits a sample is divided by 256, rounding down. One channel has the left sides.
 -- "WAV" in docs/formats.md.
@@ -57,8 +57,10 @@ riff_header size = codes "RIFF" ++ (little_bytes 4 (36 + size + size % 2) ++ cod
 -- the format chunk, of 24 bytes
 abbrev pub format_chunk : ℕ → ℕ → ℕ → List ℕ
 format_chunk channels bits rate =
-    codes "fmt " ++ (little_bytes 4 16 ++ (little_bytes 2 1 ++ (little_bytes 2 channels ++ (little_bytes 4 rate
-    ++ (little_bytes 4 (rate * frame_size channels bits) ++ (little_bytes 2 (frame_size channels bits)
+    codes "fmt " ++ (little_bytes 4 16
+    ++ (little_bytes 2 1 ++ (little_bytes 2 channels ++ (little_bytes 4 rate
+    ++ (little_bytes 4 (rate * frame_size channels bits)
+    ++ (little_bytes 2 (frame_size channels bits)
     ++ little_bytes 2 bits))))))
 
 -- the 8 bytes before the samples
@@ -67,7 +69,8 @@ data_header size = codes "data" ++ little_bytes 4 size
 
 -- the 44 bytes before the samples, by their size
 abbrev pub wav_header : ℕ → ℕ → ℕ → ℕ → List ℕ
-wav_header size channels bits rate = riff_header size ++ (format_chunk channels bits rate ++ data_header size)
+wav_header size channels bits rate =
+    riff_header size ++ (format_chunk channels bits rate ++ data_header size)
 
 -- the whole text
 abbrev pub wav_text : List Sound → ℕ → ℕ → ℕ → List ℕ

@@ -10,7 +10,8 @@ pub enum WavFault {
     NotRiff,
     /// No format chunk stands before the samples.
     NoFormat,
-    /// The format isn't 1 or 2 channels of plain numbers of 16 or 24 bits at 1 to 768000 frames a second.
+    /// The format isn't 1 or 2 channels of plain numbers of 16 or 24 bits at 1 to 768000 frames a
+    /// second.
     Unsupported,
     /// There is no `data` chunk.
     NoData,

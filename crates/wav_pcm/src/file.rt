@@ -31,7 +31,8 @@ pub struct Wav {
 /// Reads the frames of a form from its file.
 fn frames_of(alloc: Global, bytes: &[u8], form: WavForm) -> Result<Wav, WavFault>
     requires format { IsFormat form.channels form.bits }
-    requires within { form.start + form.count * frame_size form.channels form.bits ≤ length bytes.now }
+    requires within { form.start + form.count * frame_size form.channels form.bits ≤ length
+        bytes.now }
     ensures ok { IfOk result (λ wav. HoldsFrames form bytes.now wav) }
     ensures memory { IfErr result (λ fault. fault ≡ NoMemory) }
 {
@@ -54,12 +55,14 @@ fn frames_of(alloc: Global, bytes: &[u8], form: WavForm) -> Result<Wav, WavFault
     }
 }
 
-/// Reads a WAV file of 1 or 2 channels of 16 or 24 bits, at 1 to 768000 frames a second: RIFF WAVE with plain numbers,
-/// also by the extensible format. The fault is the first by the order of docs/formats.md, or want of memory.
+/// Reads a WAV file of 1 or 2 channels of 16 or 24 bits, at 1 to 768000 frames a second: RIFF WAVE
+/// with plain numbers, also by the extensible format. The fault is the first by the order of
+/// docs/formats.md, or want of memory.
 pub fn read_wav(alloc: Global, bytes: &[u8]) -> Result<Wav, WavFault>
     ensures found { IfOk result (λ wav. IsWav bytes.now (wav_spelling wav) wav.frames) }
     ensures fault { IfErr result (λ fault. IsFirstFault bytes.now fault) }
-    ensures only { IfErr result (λ fault. fault ≢ NoMemory → (spelling : SpellingOf) (frames : List Sound)
+    ensures only { IfErr result (λ fault. fault ≢ NoMemory →
+        (spelling : SpellingOf) (frames : List Sound)
         → ¬ IsWav bytes.now spelling frames) }
 {
     match wav_form(bytes) {

@@ -1,4 +1,5 @@
-//! The form of a file: how its samples are spelled, where they begin, and how many frames there are.
+//! The form of a file: how its samples are spelled, where they begin, and how many frames there
+//! are.
 
 ghost use Rattle.std.specs.Prelude.{◌≡◌, ◌+◌, ◌*◌, ◌≤◌, ◌<◌, List, drop, length, Some, None, true, false, IfOk, IfErr, IfSome, IfNone};
 ghost use Rattle.std.specs.Prelude.{◌&&◌, ◌==◌};
@@ -75,8 +76,12 @@ fn spelling_in(format: &[u8]) -> Option<Spelling>
     requires { 16 ≤ length format.now }
     ensures value { IfSome result (λ s. seen_spelling s ≡ spelling_of format.now) }
     ensures spelled { IfSome result (λ s. is_spelling (seen_spelling s) ≡ true) }
-    ensures some { IfSome result (λ _. (is_spelling (spelling_of format.now) ≡ true) × (little_number 2 (drop 12 format.now) ≡ frame_size (spelling_of format.now).channels (spelling_of format.now).bits)) }
-    ensures none { IfNone result ((is_spelling (spelling_of format.now) && little_number 2 (drop 12 format.now) == frame_size (spelling_of format.now).channels (spelling_of format.now).bits) ≡ false) }
+    ensures some { IfSome result (λ _. (is_spelling (spelling_of format.now) ≡ true)
+        × (little_number 2 (drop 12 format.now) ≡ frame_size (spelling_of format.now).channels
+        (spelling_of format.now).bits)) }
+    ensures none { IfNone result
+        ((is_spelling (spelling_of format.now) && little_number 2 (drop 12 format.now)
+        == frame_size (spelling_of format.now).channels (spelling_of format.now).bits) ≡ false) }
 {
     let channels = u16_at(format, 2);
     let rate = u32_at(format, 4);
@@ -99,7 +104,8 @@ fn spelling_in(format: &[u8]) -> Option<Spelling>
 
 /// The spelling that a format tells, or None where it isn't one that is read.
 fn spelling_of(format: &[u8]) -> Option<Spelling>
-    ensures found { IfSome result (λ s. (is_supported format.now ≡ true) × (seen_spelling s ≡ spelling_of format.now)) }
+    ensures found { IfSome result (λ s. (is_supported format.now ≡ true)
+        × (seen_spelling s ≡ spelling_of format.now)) }
     ensures spelled { IfSome result (λ s. is_spelling (seen_spelling s) ≡ true) }
     ensures only { IfNone result (is_supported format.now ≡ false) }
 {
@@ -172,7 +178,8 @@ fn form_behind(whole: usize, spelling: Spelling, part: Option<&[u8]>) -> Result<
 fn form_by(whole: usize, walk: Walk) -> Result<WavForm, WavFault>
     requires within { IfSome walk.part (λ part. length part.now ≤ whole) }
     requires long { IfSome walk.part (λ part. 4 ≤ length part.now) }
-    ensures { seen_form result ≡ form_by whole (seen_bytes walk.entry.format) (seen_bytes walk.entry.part) }
+    ensures { seen_form result ≡ form_by whole (seen_bytes walk.entry.format)
+        (seen_bytes walk.entry.part) }
 {
     match walk.format {
         None => Err(WavFault::NoFormat),
@@ -195,15 +202,17 @@ fn form_in(bytes: &[u8]) -> Result<WavForm, WavFault>
     form_by(bytes.len(), walk_over(bytes.split_at(12).1))
 }
 
-/// The form of a file by the order of tests that docs/formats.md gives, or its first fault, which is never `Memory`. No
-/// memory is taken, and the time is in proportion to the number of chunks.
+/// The form of a file by the order of tests that docs/formats.md gives, or its first fault, which
+/// is never `Memory`. No memory is taken, and the time is in proportion to the number of chunks.
 #[tactic(auto, using(crate::proofs::FormLemmas::seen_is_no_wav))]
 pub fn wav_form(bytes: &[u8]) -> Result<WavForm, WavFault>
     ensures value { seen_form result ≡ form_of bytes.now }
     ensures found { IfOk result (λ form. IsWav bytes.now (form_spelling form)
         (frames_in form.channels form.bits form.count (drop form.start bytes.now))) }
-    ensures only { IfErr result (λ _. (spelling : SpellingOf) (frames : List Sound) → ¬ IsWav bytes.now spelling frames) }
-    ensures within { IfOk result (λ form. form.start + form.count * frame_size form.channels form.bits ≤ length bytes.now) }
+    ensures only { IfErr result (λ _. (spelling : SpellingOf) (frames : List Sound) →
+        ¬ IsWav bytes.now spelling frames) }
+    ensures within { IfOk result
+        (λ form. form.start + form.count * frame_size form.channels form.bits ≤ length bytes.now) }
     ensures format { IfOk result (λ form. IsFormat form.channels form.bits) }
 {
     form_in(bytes)

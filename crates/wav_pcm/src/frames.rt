@@ -44,8 +44,8 @@ fn frame_at(bytes: &[u8], channels: u8, bits: u8) -> Frame
     }
 }
 
-/// Reads frames over `frames`, from samples in 1 or 2 channels of 16 or 24 bits. `bytes` begins with theirs. No memory is
-/// taken, so a file can be read a period after another.
+/// Reads frames over `frames`, from samples in 1 or 2 channels of 16 or 24 bits. `bytes` begins
+/// with theirs. No memory is taken, so a file can be read a period after another.
 pub fn read_frames(bytes: &[u8], frames: &mut [Frame], channels: u8, bits: u8)
     requires format { IsFormat channels bits }
     requires room { samples_size (length frames.old) channels bits ≤ length bytes.now }

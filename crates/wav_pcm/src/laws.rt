@@ -12,14 +12,17 @@ ghost use Rattle.wav_pcm.specs.Files.{IsWav};
 
 /// A text has 44 bytes, the bytes of its frames, and a pad where these are odd.
 pub fn size_of_text()
-    ensures { (frames : List Sound) (channels bits rate : ℕ) → IsFormat channels bits → length (wav_text frames channels bits rate) ≡ text_size (length frames) channels bits }
+    ensures { (frames : List Sound) (channels bits rate : ℕ) → IsFormat channels bits →
+        length (wav_text frames channels bits rate) ≡ text_size (length frames) channels bits }
 {}
 
 /// What is written is read again, as far as its form keeps it.
 pub fn wav_comes_back()
-    ensures { (frames : List Sound) (channels bits rate : ℕ) → IsFormat channels bits → AllByRecursion IsFrame frames
+    ensures { (frames : List Sound) (channels bits rate : ℕ) → IsFormat channels bits →
+        AllByRecursion IsFrame frames
         → length frames ≤ max_file_frames → 1 ≤ rate → rate ≤ max_rate
-        → IsWav (wav_text frames channels bits rate) (record { rate = rate; channels = channels; bits = bits })
+        → IsWav (wav_text frames channels bits rate)
+        (record { rate = rate; channels = channels; bits = bits })
         (map (kept channels bits) frames) }
 {}
 
@@ -31,6 +34,7 @@ pub fn rate_0_is_not_supported()
 
 /// A file has one spelling and one list of frames.
 pub fn wav_has_one_reading()
-    ensures { (bytes : List ℕ) (spelling other : Spelling) (frames others : List Sound) → IsWav bytes spelling frames
+    ensures { (bytes : List ℕ) (spelling other : Spelling) (frames others : List Sound) →
+        IsWav bytes spelling frames
         → IsWav bytes other others → (spelling ≡ other) × (frames ≡ others) }
 {}

@@ -36,7 +36,8 @@ fn write_frame(out: &mut [u8], frame: Frame, channels: u8, bits: u8)
     }
 }
 
-/// Writes the samples of frames in 1 or 2 channels of 16 or 24 bits. `out` has room for exactly these. No memory is taken.
+/// Writes the samples of frames in 1 or 2 channels of 16 or 24 bits. `out` has room for exactly
+/// these. No memory is taken.
 pub fn write_samples(out: &mut [u8], frames: &[Frame], channels: u8, bits: u8)
     requires format { IsFormat channels bits }
     requires room { length out.old ≡ samples_size (length frames.now) channels bits }

@@ -8,7 +8,8 @@ abbrev pub invariant-loop-done : goal.invariant-loop-done
 invariant-loop-done l = record {
   within : l.done ≤ length l.out;
   hint : IsHint l.list l.found.piece l.found.begin;
-  value : take l.done l.out ≡ map (at l.tape l.pool) (take l.done (drop l.place (addresses l.list)));
+  value : take l.done l.out ≡ map (at l.tape l.pool)
+      (take l.done (drop l.place (addresses l.list)));
 }
 
 abbrev pub decreases-loop-done : goal.decreases-loop-done

@@ -13,9 +13,12 @@ invariant_of-self-2 c =
     let on : IsTrue (is_some f.run) = search rules in
     let some : 1 ≤ k = search rules in
     let within : c.args.place + k ≤ length f.cells = search rules in
-    let follows : Follows f.run Forward c.args.place = rw (sym c.self.view_is) at c.requires.follows in
-    let pieces : c.overwrite_span-done.new.self.items ≡ overwritten_span k c.args.place f.next f.pieces = search rules in
+    let follows : Follows f.run Forward c.args.place =
+    rw (sym c.self.view_is) at c.requires.follows in
+    let pieces : c.overwrite_span-done.new.self.items ≡ overwritten_span k c.args.place f.next
+    f.pieces = search rules in
     record {
-      fill = span-holds k f c.args.place _ _ c.overwrite_span-done.new.self.items on some c.self.invariant.fill within follows refl refl pieces;
+      fill = span-holds k f c.args.place _ _ c.overwrite_span-done.new.self.items on some
+          c.self.invariant.fill within follows refl refl pieces;
       room = search rules;
     }

@@ -8,4 +8,7 @@ use Rattle.loop_strip.proofs.parts.Parts.boundary_act.Goals as goal
 
 pub returns-clause-did : goal.returns-clause-did
 returns-clause-did c =
-    did_also (ap (λ (d : Deck). waiting_acts_from d.waiting (reach_in (strip_of c.args.self.now) c.args.pool.now) (seen (strip_of c.args.self.now) c.args.pool.now)) (sym (seen_deck (strip_of c.args.self.now) c.args.pool.now))) c.act_waiting.ensures.did
+    did_also (ap (λ (d : Deck).
+    waiting_acts_from d.waiting (reach_in (strip_of c.args.self.now) c.args.pool.now)
+    (seen (strip_of c.args.self.now) c.args.pool.now))
+    (sym (seen_deck (strip_of c.args.self.now) c.args.pool.now))) c.act_waiting.ensures.did

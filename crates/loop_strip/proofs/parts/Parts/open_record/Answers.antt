@@ -8,30 +8,66 @@ use Rattle.loop_strip.proofs.OpeningLemmas.{refused_record, opened_as, did_recor
 use Rattle.loop_strip.proofs.parts.Parts.open_record.Goals as goal
 
 pub returns-in-Ok-clause-ok : goal.returns-in-Ok-clause-ok
-returns-in-Ok-clause-ok c = opened_as (λ a l. records a l) true c.args.self.now c.args.pool.now _ c.requires.owns c.in-Ok.ensures.answer (ap (λ (u : Stack ℕ). record (loop_of (record (layers_of c.args.self.now c.start_layer.new.self) { deck = record c.args.self.now.deck { mode = Recording; pos = 0; backward = false } })) { stack = u }) c.in-Ok.ensures.after.stack)
+returns-in-Ok-clause-ok c =
+    opened_as (λ a l. records a l) true c.args.self.now c.args.pool.now _ c.requires.owns
+    c.in-Ok.ensures.answer
+    (ap (λ (u : Stack ℕ).
+    record (loop_of (record (layers_of c.args.self.now c.start_layer.new.self)
+    { deck = record c.args.self.now.deck { mode = Recording; pos = 0; backward = false } }))
+    { stack = u }) c.in-Ok.ensures.after.stack)
 
 pub returns-in-Ok-clause-did : goal.returns-in-Ok-clause-did
 returns-in-Ok-clause-did c =
-    did_record_opened c.args.self.now (record (layers_of c.args.self.now c.start_layer.new.self) { deck = record c.args.self.now.deck { mode = Recording; pos = 0; backward = false } }) c.args.pool.now c.start_layer.new.pool c.requires.owns c.in-Ok.ensures.answer c.in-Ok.ensures.after c.shared.ensures
-    (ap (λ (u : Stack ℕ). record (loop_of (record (layers_of c.args.self.now c.start_layer.new.self) { deck = record c.args.self.now.deck { mode = Recording; pos = 0; backward = false } })) { stack = u }) c.in-Ok.ensures.after.stack)
+    did_record_opened c.args.self.now
+    (record (layers_of c.args.self.now c.start_layer.new.self)
+    { deck = record c.args.self.now.deck { mode = Recording; pos = 0; backward = false } })
+    c.args.pool.now c.start_layer.new.pool c.requires.owns c.in-Ok.ensures.answer
+    c.in-Ok.ensures.after c.shared.ensures
+    (ap (λ (u : Stack ℕ).
+    record (loop_of (record (layers_of c.args.self.now c.start_layer.new.self)
+    { deck = record c.args.self.now.deck { mode = Recording; pos = 0; backward = false } }))
+    { stack = u }) c.in-Ok.ensures.after.stack)
 
 pub returns-in-Ok-clause-whole : goal.returns-in-Ok-clause-whole
-returns-in-Ok-clause-whole c = whole_recorded c.args.self.now (record (layers_of c.args.self.now c.start_layer.new.self) { deck = record c.args.self.now.deck { mode = Recording; pos = 0; backward = false } }) c.args.pool.now c.requires.owns c.requires.whole c.requires.closed (returns-in-Ok-clause-ok c) c.in-Ok.ensures.after.writing refl
+returns-in-Ok-clause-whole c =
+    whole_recorded c.args.self.now
+    (record (layers_of c.args.self.now c.start_layer.new.self)
+    { deck = record c.args.self.now.deck { mode = Recording; pos = 0; backward = false } })
+    c.args.pool.now c.requires.owns c.requires.whole c.requires.closed (returns-in-Ok-clause-ok c)
+    c.in-Ok.ensures.after.writing refl
 
 pub returns-in-Layers-clause-ok : goal.returns-in-Layers-clause-ok
-returns-in-Layers-clause-ok c = (refused_record c.args.self.now c.refuse.new.self c.start_layer.new.self c.args.pool.now c.start_layer.new.pool Layers c.requires.owns c.in-Layers.ensures.answer c.in-Layers.ensures.after c.refuse.ensures.layers c.refuse.ensures.ok refl).ok
+returns-in-Layers-clause-ok c =
+    (refused_record c.args.self.now c.refuse.new.self c.start_layer.new.self c.args.pool.now
+    c.start_layer.new.pool Layers c.requires.owns c.in-Layers.ensures.answer
+    c.in-Layers.ensures.after c.refuse.ensures.layers c.refuse.ensures.ok refl).ok
 
 pub returns-in-Layers-clause-did : goal.returns-in-Layers-clause-did
-returns-in-Layers-clause-did c = (refused_record c.args.self.now c.refuse.new.self c.start_layer.new.self c.args.pool.now c.start_layer.new.pool Layers c.requires.owns c.in-Layers.ensures.answer c.in-Layers.ensures.after c.refuse.ensures.layers c.refuse.ensures.ok refl).did
+returns-in-Layers-clause-did c =
+    (refused_record c.args.self.now c.refuse.new.self c.start_layer.new.self c.args.pool.now
+    c.start_layer.new.pool Layers c.requires.owns c.in-Layers.ensures.answer
+    c.in-Layers.ensures.after c.refuse.ensures.layers c.refuse.ensures.ok refl).did
 
 pub returns-in-Seams-clause-ok : goal.returns-in-Seams-clause-ok
-returns-in-Seams-clause-ok c = (refused_record c.args.self.now c.refuse-in-Seams.new.self c.start_layer.new.self c.args.pool.now c.start_layer.new.pool Seams c.requires.owns c.in-Seams.ensures.answer c.in-Seams.ensures.after c.refuse-in-Seams.ensures.layers c.refuse-in-Seams.ensures.ok refl).ok
+returns-in-Seams-clause-ok c =
+    (refused_record c.args.self.now c.refuse-in-Seams.new.self c.start_layer.new.self
+    c.args.pool.now c.start_layer.new.pool Seams c.requires.owns c.in-Seams.ensures.answer
+    c.in-Seams.ensures.after c.refuse-in-Seams.ensures.layers c.refuse-in-Seams.ensures.ok refl).ok
 
 pub returns-in-Seams-clause-did : goal.returns-in-Seams-clause-did
-returns-in-Seams-clause-did c = (refused_record c.args.self.now c.refuse-in-Seams.new.self c.start_layer.new.self c.args.pool.now c.start_layer.new.pool Seams c.requires.owns c.in-Seams.ensures.answer c.in-Seams.ensures.after c.refuse-in-Seams.ensures.layers c.refuse-in-Seams.ensures.ok refl).did
+returns-in-Seams-clause-did c =
+    (refused_record c.args.self.now c.refuse-in-Seams.new.self c.start_layer.new.self
+    c.args.pool.now c.start_layer.new.pool Seams c.requires.owns c.in-Seams.ensures.answer
+    c.in-Seams.ensures.after c.refuse-in-Seams.ensures.layers c.refuse-in-Seams.ensures.ok refl).did
 
 pub returns-in-Room-clause-ok : goal.returns-in-Room-clause-ok
-returns-in-Room-clause-ok c = (refused_record c.args.self.now c.refuse-in-Room.new.self c.start_layer.new.self c.args.pool.now c.start_layer.new.pool Room c.requires.owns c.in-Room.ensures.answer c.in-Room.ensures.after c.refuse-in-Room.ensures.layers c.refuse-in-Room.ensures.ok refl).ok
+returns-in-Room-clause-ok c =
+    (refused_record c.args.self.now c.refuse-in-Room.new.self c.start_layer.new.self c.args.pool.now
+    c.start_layer.new.pool Room c.requires.owns c.in-Room.ensures.answer c.in-Room.ensures.after
+    c.refuse-in-Room.ensures.layers c.refuse-in-Room.ensures.ok refl).ok
 
 pub returns-in-Room-clause-did : goal.returns-in-Room-clause-did
-returns-in-Room-clause-did c = (refused_record c.args.self.now c.refuse-in-Room.new.self c.start_layer.new.self c.args.pool.now c.start_layer.new.pool Room c.requires.owns c.in-Room.ensures.answer c.in-Room.ensures.after c.refuse-in-Room.ensures.layers c.refuse-in-Room.ensures.ok refl).did
+returns-in-Room-clause-did c =
+    (refused_record c.args.self.now c.refuse-in-Room.new.self c.start_layer.new.self c.args.pool.now
+    c.start_layer.new.pool Room c.requires.owns c.in-Room.ensures.answer c.in-Room.ensures.after
+    c.refuse-in-Room.ensures.layers c.refuse-in-Room.ensures.ok refl).did

@@ -10,6 +10,11 @@ loop-done-preserved c =
     record {
       within = search rules;
       same = search rules;
-      runs = runs_more c.loop-done.done c.take_some-done.result c.args.input.now c.loop-done.heard c.take_some-done.new.heard _ _ c.args.self.now c.loop-done.self c.take_some-done.new.self c.args.pool.now c.loop-done.pool c.take_some-done.new.pool
-          (search rules) (search rules) c.loop-done.invariant.runs (rw (take_rest c.args.input.now c.loop-done.done) at c.take_some-done.ensures.did) (rw (take_rest c.args.input.now c.loop-done.done) at c.take_some-done.ensures.heard) refl c.take_some-done.ensures.whole;
+      runs = runs_more c.loop-done.done c.take_some-done.result c.args.input.now c.loop-done.heard
+          c.take_some-done.new.heard _ _ c.args.self.now c.loop-done.self c.take_some-done.new.self
+          c.args.pool.now c.loop-done.pool c.take_some-done.new.pool
+          (search rules) (search rules) c.loop-done.invariant.runs
+          (rw (take_rest c.args.input.now c.loop-done.done) at c.take_some-done.ensures.did)
+          (rw (take_rest c.args.input.now c.loop-done.done) at c.take_some-done.ensures.heard)
+          refl c.take_some-done.ensures.whole;
     }

@@ -6,4 +6,5 @@ use Rattle.loop_strip.specs.Parts.{strip_of}
 use Rattle.loop_strip.proofs.strip.Strip.pin.Goals as goal
 
 pub returns : goal.returns
-returns c = subst (λ (t : StripOf). DidAlone (λ reach l. with_stack (pinned l.stack) l) t (strip_of c.pin.new.self)) c.self.view_is c.pin.ensures.did
+returns c = subst (λ (t : StripOf). DidAlone (λ reach l. with_stack (pinned l.stack) l) t
+    (strip_of c.pin.new.self)) c.self.view_is c.pin.ensures.did

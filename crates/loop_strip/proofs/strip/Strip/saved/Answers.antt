@@ -4,4 +4,5 @@ use Rattle.loop_strip.proofs.StripLemmas.{pinned_at}
 use Rattle.loop_strip.proofs.strip.Strip.saved.Goals as goal
 
 pub returns : goal.returns
-returns c = c.saved.ensures ∙ ap (λ xs. get_or xs c.args.place silence) (pinned_at c.self.inside.parts c.args.self.now c.args.pool.now c.self.view_is)
+returns c = c.saved.ensures ∙ ap (λ xs. get_or xs c.args.place silence)
+    (pinned_at c.self.inside.parts c.args.self.now c.args.pool.now c.self.view_is)

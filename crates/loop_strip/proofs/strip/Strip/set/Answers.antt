@@ -6,4 +6,6 @@ use Rattle.loop_strip.specs.Parts.{strip_of}
 use Rattle.loop_strip.proofs.strip.Strip.set.Goals as goal
 
 pub returns : goal.returns
-returns c = subst (λ (t : StripOf). DidAlone (sets c.args.control c.args.value) t (strip_of c.set.new.self)) c.self.view_is (rw (to_z-of_z w32 c.args.value c.ranges.value) at c.set.ensures.did)
+returns c = subst (λ (t : StripOf).
+    DidAlone (sets c.args.control c.args.value) t (strip_of c.set.new.self)) c.self.view_is
+    (rw (to_z-of_z w32 c.args.value c.ranges.value) at c.set.ensures.did)

@@ -5,4 +5,5 @@ use Rattle.loop_strip.proofs.strip.Strip.value.Goals as goal
 pub returns : goal.returns
 returns c =
     rw (to_z-of_z {w = w32} {z = c.value.result} (record { sfits = c.value.type_inv }))
-    (c.value.ensures ∙ told_at c.args.control c.free_chunks.result c.self.inside.parts c.args.self.now c.args.pool.now c.self.view_is c.free_chunks.ensures.value)
+    (c.value.ensures ∙ told_at c.args.control c.free_chunks.result c.self.inside.parts
+    c.args.self.now c.args.pool.now c.self.view_is c.free_chunks.ensures.value)
