@@ -115,8 +115,10 @@ header_is_whole = (
                         λ e. Prim.omega arith,
                         (
                           λ e. Prim.omega arith,
-                          (λ e. Prim.omega arith,
-                            (λ e. Prim.omega arith, (λ e. Prim.omega arith, tt))),
+                          (
+                            λ e. Prim.omega arith,
+                            (λ e. Prim.omega arith, (λ e. Prim.omega arith, tt)),
+                          ),
                         ),
                       ),
                     ),
