@@ -3,11 +3,12 @@
 -- its files' names. Its name is one, its settings lie in their ranges, and its target is that of a
 -- release.
 -- "Blocks of a save" in docs/rules.md.
-use Rattle.std.specs.Prelude.{◌≡◌, ℕ, ◌+◌, ◌≤◌, ⊤, List, [], ◌∷◌, ◌++◌, length, IsTrue}
+use Rattle.std.specs.Prelude.{◌≡◌, ℕ, ◌+◌, ◌≤◌, ⊤, Bool, true, false, List, [], ◌∷◌, ◌++◌, length, IsTrue, if◌then◌else◌}
 use Rattle.sl_base.specs.Names.{is_name}
 use Rattle.sl_commands.specs.declared.Target.{Target}
 use Rattle.sl_commands.specs.declared.Target.TheVariants.{All}
 use Rattle.sl_commands.specs.declared.Block.{Block}
+use Rattle.sl_commands.specs.declared.Block.TheVariants.{End}
 use Rattle.sl_commands.specs.Commands.{is_release_target}
 use Rattle.sl_commands.specs.Settings.{are_settings}
 use Rattle.sl_commands.specs.Blocks.{blocks_of, IsSave}
@@ -21,6 +22,16 @@ blocks_of_save s = blocks_of s.number s.name s.target s.settings s.lists
 abbrev pub blocks_for_all : List Save → List Block
 blocks_for_all [] = []
 blocks_for_all (s ∷ saves) = blocks_of_save s ++ blocks_for_all saves
+
+-- a block that ends a save
+abbrev pub is_end : Block → Bool
+is_end (End save) = true
+is_end _ = false
+
+-- how many saves end in these blocks
+abbrev pub ends_in : List Block → ℕ
+ends_in [] = 0
+ends_in (b ∷ bs) = (if is_end b then 1 else 0) + ends_in bs
 
 -- how many lists a save with this target and so many loops has
 abbrev pub list_count : Target → ℕ → ℕ

@@ -1,9 +1,9 @@
 -- The blocks of a save, one after another.
-use Rattle.std.proofs.Common.{◌≡◌, ◌≢◌, ◌⊎◌, ℕ, suc, ◌+◌, ◌%◌, ◌≤◌, ◌<◌, Bool, true, false, ◌&&◌, ◌||◌, ◌==◌, nat_le, nat_lt, cond, List, [], ◌∷◌, ◌++◌, length, Option, Some, None, is_some, refl, sym, ◌∙◌, ap, subst, arith, append_assoc, length-append, inl, inr}
+use Rattle.std.proofs.Common.{◌≡◌, ◌≢◌, ◌⊎◌, ℕ, suc, ◌+◌, ◌%◌, ◌≤◌, ◌<◌, Bool, true, false, ◌&&◌, ◌||◌, ◌==◌, nat_le, nat_lt, cond, List, [], ◌∷◌, ◌++◌, length, Option, Some, None, is_some, refl, sym, ◌∙◌, ap, subst, arith, append_assoc, append-nil, length-append, inl, inr}
 use Rattle.std.specs.Bool.{then_some}
 use Rattle.std.specs.List.{list_all}
-use Rattle.std.proofs.Math.Bool.{or-true}
-use Rattle.std.proofs.lemmas.Bool.{leb-true, le-leb, lt-ltb, eqb-true, eq-eqb, ne_eqb}
+use Rattle.std.proofs.Math.Bool.{or-true, and_assoc}
+use Rattle.std.proofs.lemmas.Bool.{leb-true, le-leb, lt-ltb, eqb-true, eq-eqb, ne_eqb, and_parts}
 use Rattle.std.proofs.Math.Nat.{add-mul-mod_self_right}
 use Rattle.std.proofs.lemmas.List.Folds.{list_all-append}
 use Rattle.sl_base.specs.Sounds.{Sound}
@@ -355,3 +355,27 @@ follows_own_save sent b bound save g due may =
     (subst (λ (p : Option Place). is_some p ≡ true)
     (place_behind-append (Some first_place) sent (b ∷ []) ∙ ap (λ p. place_behind p (b ∷ [])) due)
     some)
+
+-- blocks may follow where the first ones may, and the others behind these
+pub may_all_follow-append : (sent xs ys : List Block) (bound : ℕ) →
+    may_all_follow sent (xs ++ ys) bound
+    ≡ (may_all_follow sent xs bound && may_all_follow (sent ++ xs) ys bound)
+may_all_follow-append sent [] ys bound =
+    ap (λ bs. may_all_follow bs ys bound) (sym (append-nil sent))
+may_all_follow-append sent (x ∷ xs) ys bound =
+    ap (λ b. may_follow sent x bound && b) (may_all_follow-append (sent ++ x ∷ []) xs ys bound)
+    ∙ ap (λ bs. may_follow sent x bound
+    && (may_all_follow (sent ++ x ∷ []) xs bound && may_all_follow bs ys bound))
+    (append_assoc sent (x ∷ []) xs)
+    ∙ sym (and_assoc (may_follow sent x bound) (may_all_follow (sent ++ x ∷ []) xs bound)
+    (may_all_follow (sent ++ x ∷ xs) ys bound))
+
+-- each may follow those before it
+pub follows_those_before : (sent first rest : List Block) (b : Block) (bound : ℕ) →
+    may_all_follow sent (first ++ b ∷ rest) bound ≡ true → may_follow (sent ++ first) b bound ≡ true
+follows_those_before sent first rest b bound all =
+    let cut = and_parts (may_all_follow sent first bound)
+    (may_all_follow (sent ++ first) (b ∷ rest) bound)
+    (sym (may_all_follow-append sent first (b ∷ rest) bound) ∙ all) in
+    (and_parts (may_follow (sent ++ first) b bound)
+    (may_all_follow ((sent ++ first) ++ b ∷ []) rest bound) cut.1).0

@@ -1,11 +1,12 @@
 -- What stamped entries are: the test goes entry by entry, the rule speaks of the whole list.
-use Rattle.std.proofs.Common.{◌≡◌, ℕ, ◌+◌, Bool, true, false, ◌&&◌, ◌==◌, cond, List, [], ◌∷◌, ◌++◌, length, refl, sym, ◌∙◌, ap, subst, arith, append_assoc, length-append}
+use Rattle.std.proofs.Common.{◌≡◌, ◌≢◌, ℕ, suc, ◌+◌, Bool, true, false, ◌&&◌, ◌==◌, cond, List, [], ◌∷◌, ◌++◌, length, map, refl, sym, ◌∙◌, ap, subst, arith, append_assoc, length-append}
 use Rattle.std.proofs.Math.Bool.{and_assoc, and-true}
-use Rattle.std.proofs.lemmas.Bool.{leb-true, le-leb, eqb-true, eq-eqb}
+use Rattle.std.proofs.lemmas.Bool.{leb-true, le-leb, eqb-true, eq-eqb, ne_eqb}
 use Rattle.std.proofs.lemmas.List.{append-nil}
 use Rattle.std.proofs.lemmas.List.Elements.{filter-append}
 use Rattle.sl_commands.specs.declared.entry.Entry.{Entry}
-use Rattle.sl_commands.specs.Entries.{entries_of, last_frame_from, last_frame, may_be_next, are_stamped_behind, are_stamped, FramesNeverFall, AreNumberedFrom, IsStamped}
+use Rattle.sl_commands.specs.declared.command.Command.{Command}
+use Rattle.sl_commands.specs.Entries.{entries_of, command_in, commands_of, last_frame_from, last_frame, may_be_next, are_stamped_behind, are_stamped, FramesNeverFall, AreNumberedFrom, IsStamped}
 
 -- both halves of a test that passed
 both : (a b : Bool) → (a && b) ≡ true → (a ≡ true) × (b ≡ true)
@@ -140,3 +141,52 @@ stamped_is_in_order es is =
 -- and the rule what the test says
 pub in_order_is_stamped : (es : List Entry) → IsStamped es → are_stamped es ≡ true
 in_order_is_stamped es order = stamped_from [] es order.frames order.numbers
+
+-- the commands of two lists
+commands-append : (es fs : List Entry) →
+    map command_in (es ++ fs) ≡ map command_in es ++ map command_in fs
+commands-append [] fs = refl
+commands-append (e ∷ es) fs = ap (λ cs. e.command ∷ cs) (commands-append es fs)
+
+-- the command of an entry that is kept, and of one that isn't
+own_command : (own : Bool) (e : Entry) → own ≡ true →
+    map command_in (cond own (e ∷ []) []) ≡ e.command ∷ []
+own_command own e is = rw is refl
+
+no_command : (own : Bool) (e : Entry) → own ≡ false →
+    map command_in (cond own (e ∷ []) []) ≡ []
+no_command own e is = rw is refl
+
+-- the commands of a sender, with one more entry
+commands_of-push : (sender : ℕ) (es : List Entry) (e : Entry) →
+    commands_of sender (es ++ e ∷ []) ≡ commands_of sender es
+    ++ map command_in (cond (e.sender == sender) (e ∷ []) [])
+commands_of-push sender es e =
+    ap (map command_in) (entries_of-push sender es e)
+    ∙ commands-append (entries_of sender es) (cond (e.sender == sender) (e ∷ []) [])
+
+-- with one of its own
+pub commands_of-own : (sender : ℕ) (es : List Entry) (e : Entry) → e.sender ≡ sender →
+    commands_of sender (es ++ e ∷ []) ≡ commands_of sender es ++ e.command ∷ []
+commands_of-own sender es e is =
+    commands_of-push sender es e
+    ∙ ap (λ cs. commands_of sender es ++ cs)
+    (own_command (e.sender == sender) e (eq-eqb e.sender sender is))
+
+-- with one of another
+pub commands_of-other : (sender : ℕ) (es : List Entry) (e : Entry) → e.sender ≢ sender →
+    commands_of sender (es ++ e ∷ []) ≡ commands_of sender es
+commands_of-other sender es e is =
+    commands_of-push sender es e
+    ∙ ap (λ cs. commands_of sender es ++ cs)
+    (no_command (e.sender == sender) e (ne_eqb e.sender sender is))
+    ∙ append-nil (commands_of sender es)
+
+-- as many commands as entries
+commands-count : (es : List Entry) → length (map command_in es) ≡ length es
+commands-count [] = refl
+commands-count (e ∷ es) = ap suc (commands-count es)
+
+pub length-commands_of : (sender : ℕ) (es : List Entry) →
+    length (commands_of sender es) ≡ length (entries_of sender es)
+length-commands_of sender es = commands-count (entries_of sender es)

@@ -3,7 +3,7 @@
 -- saver alone, and it sends nothing else. A list of entries is stamped where frames never fall, and
 -- each sender's numbers are 0, 1, 2 and so on in order.
 -- "Entries" in docs/rules.md.
-use Rattle.std.specs.Prelude.{◌≡◌, ◌≤◌, ℕ, ◌+◌, Bool, true, ◌&&◌, ◌==◌, nat_le, nat_lt, List, [], ◌∷◌, ◌++◌, length, filter}
+use Rattle.std.specs.Prelude.{◌≡◌, ◌≤◌, ℕ, ◌+◌, Bool, true, ◌&&◌, ◌==◌, nat_le, nat_lt, List, [], ◌∷◌, ◌++◌, length, filter, map}
 use Rattle.std.specs.List.{list_all}
 use Rattle.sl_commands.specs.declared.command.Command.{Command}
 use Rattle.sl_commands.specs.declared.command.Command.TheVariants.{Release}
@@ -26,6 +26,14 @@ are_valid loops es = list_all (is_valid loops) es
 -- the entries of one sender, in order
 abbrev pub entries_of : ℕ → List Entry → List Entry
 entries_of sender es = filter (λ e. e.sender == sender) es
+
+-- the command of an entry
+abbrev pub command_in : Entry → Command
+command_in e = e.command
+
+-- the commands of one sender, in order
+abbrev pub commands_of : ℕ → List Entry → List Command
+commands_of sender es = map command_in (entries_of sender es)
 
 -- the frame of the last entry, or the one given where there is none
 abbrev pub last_frame_from : ℕ → List Entry → ℕ

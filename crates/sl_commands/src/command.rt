@@ -3,6 +3,7 @@
 ghost use Rattle.std.specs.Prelude.{◌≡◌};
 ghost use Rattle.sl_base.specs.Names.{is_name};
 ghost use Rattle.sl_commands.specs.Commands.{target_number, numbered_target, is_target, is_single_target, is_release_target, is_outcome, is_session_name, is_allowed};
+ghost use Rattle.sl_commands.specs.Blocks.{first_index};
 
 use crate::control::{Control, in_range};
 use crate::verb::Verb;
@@ -73,6 +74,16 @@ impl Target {
             Target::One(index) => index < loops,
             Target::All => true,
             Target::Selected => false,
+        }
+    }
+
+    /// The index of the first list of a save with this target.
+    pub fn first_index(self) -> u8
+        ensures { result ≡ first_index self }
+    {
+        match self {
+            Target::One(index) => index,
+            _ => 0,
         }
     }
 }

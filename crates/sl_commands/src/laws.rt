@@ -1,11 +1,13 @@
 //! What holds of the definitions: each function's clause is a law, and its body is empty.
 
-ghost use Rattle.std.specs.Prelude.{◌≡◌, ℕ, ◌<◌, ◌&&◌, ◌+◌, pos, [], ◌∷◌, length, ◌++◌, ◌↔◌, IsTrue, slice_get};
+ghost use Rattle.std.specs.Prelude.{◌≡◌, ◌≢◌, ℕ, ◌<◌, ◌&&◌, ◌+◌, pos, List, [], ◌∷◌, length, ◌++◌, ◌↔◌, IsTrue, slice_get};
 ghost use Rattle.sl_commands.specs.Verbs.{verb_name, verb_number, verbs};
 ghost use Rattle.sl_commands.specs.Commands.{target_number, numbered_target};
 ghost use Rattle.sl_commands.specs.Controls.{control_name, is_in_range, can_be_set, default_of};
 ghost use Rattle.sl_commands.specs.Blocks.{Underway, blocks_of, place_of, save_of, may_follow, may_all_follow, IsSave};
-ghost use Rattle.sl_commands.specs.Entries.{are_stamped, may_be_next, IsStamped};
+ghost use Rattle.sl_commands.specs.Entries.{entries_of, commands_of, are_stamped, may_be_next, IsStamped};
+ghost use Rattle.sl_commands.specs.declared.block.Block.{Block as BlockOf};
+ghost use Rattle.sl_commands.specs.declared.entry.Entry.{Entry as EntryOf};
 
 use crate::block::Block;
 use crate::command::{Command, Target};
@@ -118,6 +120,16 @@ pub fn stamped_entries_are_in_order(entries: &[Entry])
     ensures only { IsStamped entries.now → IsTrue (are_stamped entries.now) }
 {}
 
+/// With one entry more a sender has its commands from before, and that entry's where it is its own.
+pub fn a_senders_commands_grow_by_its_entry()
+    ensures own { (sender : ℕ) → (es : List EntryOf) → (e : EntryOf) → e.sender ≡ sender →
+        commands_of sender (es ++ e ∷ []) ≡ commands_of sender es ++ e.command ∷ [] }
+    ensures others { (sender : ℕ) → (es : List EntryOf) → (e : EntryOf) → e.sender ≢ sender →
+        commands_of sender (es ++ e ∷ []) ≡ commands_of sender es }
+    ensures count { (sender : ℕ) → (es : List EntryOf) →
+        length (commands_of sender es) ≡ length (entries_of sender es) }
+{}
+
 /// The blocks of a save may come one after another, behind whole saves as many as its number.
 pub fn a_whole_save_may_follow(
     sent: &[Block],
@@ -141,4 +153,15 @@ pub fn a_save_is_sent_to_its_end(sent: &[Block], block: &Block, bound: u32)
     ensures { (save : ℕ) (underway : Underway) →
         place_of sent.now ≡ Some (record { saves = save; underway = Some underway })
         → IsTrue (may_follow sent.now block.now bound) → save_of block.now ≡ save }
+{}
+
+/// Blocks may follow one another where the first ones may, and the others behind these. So each of
+/// them may follow those before it.
+pub fn blocks_that_may_follow_may_be_cut()
+    ensures cut { (sent first next : List BlockOf) → (bound : ℕ) →
+        may_all_follow sent (first ++ next) bound
+        ≡ (may_all_follow sent first bound && may_all_follow (sent ++ first) next bound) }
+    ensures next { (sent first rest : List BlockOf) → (b : BlockOf) → (bound : ℕ) →
+        IsTrue (may_all_follow sent (first ++ b ∷ rest) bound) →
+        IsTrue (may_follow (sent ++ first) b bound) }
 {}
