@@ -53,16 +53,14 @@ impl Fill {
     pub fn new(alloc: Global) -> Result<Fill, Memory>
         ensures { IfOk result (λ f. f ≡ fill_started [] 0 0) }
     {
-        match PieceList::new(alloc, MAX_SEAMS) {
-            Err(_) => Err(Memory),
-            Ok(list) => Ok(Fill {
-                list,
-                floor: 0,
-                next: 0,
-                seams: 0,
-                run: None,
-            }),
-        }
+        let list = PieceList::new(alloc, MAX_SEAMS)?;
+        Ok(Fill {
+            list,
+            floor: 0,
+            next: 0,
+            seams: 0,
+            run: None,
+        })
     }
 
     /// What always holds.

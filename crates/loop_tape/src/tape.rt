@@ -41,14 +41,12 @@ impl Tape {
         requires { chunks ≤ max_chunks }
         ensures { IfOk result (λ t. t ≡ record { chunks = []; len = 0; room = chunks }) }
     {
-        match Vec::with_capacity(alloc, chunks as usize) {
-            Ok(list) => Ok(Tape {
-                chunks: list,
-                len: 0,
-                room: chunks,
-            }),
-            Err(_) => Err(Memory),
-        }
+        let list = Vec::with_capacity(alloc, chunks as usize)?;
+        Ok(Tape {
+            chunks: list,
+            len: 0,
+            room: chunks,
+        })
     }
 
     /// What always holds of a tape.

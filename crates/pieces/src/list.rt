@@ -43,15 +43,13 @@ impl PieceList {
         requires { room ≤ max_seams }
         ensures { IfOk result (λ l. l ≡ record { items = []; room = room }) }
     {
-        match Vec::with_capacity(alloc, room as usize + 4) {
-            Ok(pieces) => Ok(PieceList {
-                pieces,
-                room,
-                total: 0,
-                hint: Hint::front(),
-            }),
-            Err(_) => Err(Memory),
-        }
+        let pieces = Vec::with_capacity(alloc, room as usize + 4)?;
+        Ok(PieceList {
+            pieces,
+            room,
+            total: 0,
+            hint: Hint::front(),
+        })
     }
 
     /// The pieces, in order.

@@ -15,6 +15,10 @@ raised count = max count (min (count + 1) last_count)
 abbrev pub Rose : ℕ → ℕ → Type 0
 Rose before now = min (before + 1) last_count ≤ now
 
+-- the count rose by so much at least, or stands at its last value
+abbrev pub RoseBy : ℕ → ℕ → ℕ → Type 0
+RoseBy times before now = min (before + times) last_count ≤ now
+
 -- what a call that failed or not did to its count
 pub record Counts (before now : ℕ) (failed : Bool) : Type 0 where
   pub later : before ≤ now

@@ -44,10 +44,8 @@ impl Frames {
         ensures ok { OnOk result (self.new ≡ self.old ++ frame ∷ []) }
         ensures unchanged { OnErr result (self.new ≡ self.old) }
     {
-        match self.frames.push(frame) {
-            Ok(()) => Ok(()),
-            Err(_) => Err(Memory),
-        }
+        self.frames.push(frame)?;
+        Ok(())
     }
 
     /// The frames, oldest first.

@@ -36,5 +36,5 @@ pub use limits::{
     MAX_LOOPS, MAX_PERIOD, MAX_QUOTA, MAX_RATE, MAX_SAVER_QUOTA, MAX_SEAMS, MAX_SESSION_FRAMES,
     MAX_SESSION_NAME, MAX_VALUE, limits_are_those_of_contracts,
 };
-pub use memory::Memory;
+pub use memory::{Memory, Shortage};
 pub use name::Name;

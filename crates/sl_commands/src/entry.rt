@@ -92,10 +92,8 @@ impl Entries {
         ensures ok { OnOk result (self.new ≡ self.old ++ entry ∷ []) }
         ensures unchanged { OnErr result (self.new ≡ self.old) }
     {
-        match self.entries.push(entry) {
-            Ok(()) => Ok(()),
-            Err(_) => Err(Memory),
-        }
+        self.entries.push(entry)?;
+        Ok(())
     }
 
     /// The entries, in the order in which they apply.

@@ -40,5 +40,5 @@ pub use fault::{ReadText, TextFault, TextKind};
 pub use item::Item;
 pub use mode::{Face, Held, How, Mode, Started};
 pub use reply::{Reply, What};
-pub use settings::{Globals, Initial, Settings, StripSettings, Strips};
+pub use settings::{Globals, Initial, Settings, StripSettings, Strips, is_cycle_of};
 pub use verb::{Verb, verb_of};

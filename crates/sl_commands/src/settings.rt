@@ -72,7 +72,8 @@ impl Default for StripSettings {
     }
 }
 
-fn is_cycle_of(length: u32, cycle: u32) -> bool
+/// The cycle is one of a list of this length: 0 of an empty one, and else 1 to the length.
+pub fn is_cycle_of(length: u32, cycle: u32) -> bool
     ensures { result ≡ is_cycle_of length cycle }
 {
     if length == 0 {
@@ -305,10 +306,8 @@ impl Initial {
         ensures ok { OnOk result (self.new ≡ self.old ++ list ∷ []) }
         ensures unchanged { OnErr result (self.new ≡ self.old) }
     {
-        match self.lists.push(list) {
-            Ok(()) => Ok(()),
-            Err(_) => Err(Memory),
-        }
+        self.lists.push(list)?;
+        Ok(())
     }
 
     /// The lists, by the index of their loops.

@@ -94,11 +94,10 @@ impl MemKeeper {
         }) }
         ensures unchanged { OnErr result (self.new ≡ self.old) }
     {
-        let name = name.clone().map_err(|_| Memory)?;
-        let bytes = Vec::from_slice(alloc, bytes).map_err(|_| Memory)?;
-        self.written
-            .push(StoredFile { name, bytes })
-            .map_err(|_| Memory)
+        let bytes = Vec::from_slice(alloc, bytes)?;
+        let name = name.duplicate();
+        self.written.push(StoredFile { name, bytes })?;
+        Ok(())
     }
 
     /// The bytes of the file under a name, or None where there is no such file.

@@ -49,18 +49,14 @@ impl LayerStack {
     pub fn new(alloc: Global) -> Result<LayerStack, Memory>
         ensures { IfOk result (λ s. s ≡ record { layers = []; redo = []; pieces = [] }) }
     {
-        match Vec::with_capacity(alloc, MAX_SEAMS as usize) {
-            Err(_) => Err(Memory),
-            Ok(pieces) => match Vec::with_capacity(alloc, MAX_LAYERS as usize) {
-                Err(_) => Err(Memory),
-                Ok(marks) => Ok(LayerStack {
-                    pieces,
-                    marks,
-                    layers: 0,
-                    hint: Hint::front(),
-                }),
-            },
-        }
+        let pieces = Vec::with_capacity(alloc, MAX_SEAMS as usize)?;
+        let marks = Vec::with_capacity(alloc, MAX_LAYERS as usize)?;
+        Ok(LayerStack {
+            pieces,
+            marks,
+            layers: 0,
+            hint: Hint::front(),
+        })
     }
 
     /// What always holds.
