@@ -3,7 +3,7 @@
 # make picture   draws one of them as docs/two-loops.svg
 # make test      the gate: every proof, must-fail edit, test and program, and the repository's own checks
 # make install   puts the program and its manual page under PREFIX
-# `rt` has to be on the PATH. Only a proved program is built.
+# `rt` has to be on the PATH, and python3. Only a proved program is built: from nothing that takes its time, and tools/build says how long.
 
 PREFIX ?= /usr/local
 PROGRAM = crates/looper/out/looper
@@ -12,7 +12,7 @@ DEMO = out/demo
 .PHONY: all demo examples picture test install
 
 all:
-	cd crates/looper && rt run -- --version
+	@tools/build looper
 
 demo: all
 	rm -rf $(DEMO)

@@ -4,7 +4,7 @@
 #
 #   bench/engine.sh PROGRAM [RUNS [TIMES]]
 #
-# PROGRAM is crates/engine_bench/out/engine_bench, made by `rt run` in that crate's folder. Each number is millions of frames of a loop
+# PROGRAM is crates/benches/out/benches, made by `rt run` in that crate's folder. Each number is millions of frames of a loop
 # a second, the most of RUNS runs of the program, each of which takes the best of TIMES. At the end stand the goals. It needs
 # python3.
 set -eu
@@ -18,7 +18,7 @@ program, runs, times = sys.argv[1], int(sys.argv[2]), sys.argv[3]
 def most(kind, loops, period):
     told = {}
     for _ in range(runs):
-        out = subprocess.run([program, kind, str(loops), str(period), times], capture_output=True, text=True, check=True)
+        out = subprocess.run([program, 'engine', kind, str(loops), str(period), times], capture_output=True, text=True, check=True)
         for line in out.stdout.split('\n'):
             if line:
                 name, number = line.split()

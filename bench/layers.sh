@@ -4,7 +4,7 @@
 #
 #   bench/layers.sh PROGRAM [RUNS [TIMES]]
 #
-# PROGRAM is crates/layers_bench/out/layers_bench, made by `rt run` in that crate's folder. Each number is the least of RUNS runs
+# PROGRAM is crates/benches/out/benches, made by `rt run` in that crate's folder. Each number is the least of RUNS runs
 # of the program, each of which takes the least of TIMES. At the end stand the goals. It needs python3.
 set -eu
 program=$(realpath "$1")
@@ -23,7 +23,7 @@ CALLS = ['append', 'opening_of_the_first', 'opening', 'new', 'fresh', 'new_backw
 def least(kind, frames, singles):
     told = {}
     for _ in range(runs):
-        out = subprocess.run([program, kind, str(frames), str(singles), times], capture_output=True, text=True, check=True)
+        out = subprocess.run([program, 'layers', kind, str(frames), str(singles), times], capture_output=True, text=True, check=True)
         for line in out.stdout.split('\n'):
             if line:
                 name, number = line.split()

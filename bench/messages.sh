@@ -4,7 +4,7 @@
 #
 #   bench/messages.sh PROGRAM [COUNT [RUNS]]
 #
-# PROGRAM is crates/messages_bench/out/messages_bench, made by `rt run` in that crate's folder. Each kind of message is
+# PROGRAM is crates/benches/out/benches, made by `rt run` in that crate's folder. Each kind of message is
 # read COUNT times, notes ten times as often, and looked up a tenth as often. Prints the least and the median of the runs, in nanoseconds of the processor a message. It needs
 # python3 and GNU time.
 set -eu
@@ -16,10 +16,10 @@ trap 'rm -rf "$folder"' EXIT
 cd "$folder"
 run=0
 while [ "$run" -lt "$runs" ]; do
-    /usr/bin/time -f "hit $count %U %S" -a -o times "$program" hit "$count"
-    /usr/bin/time -f "flood $((count / 292 * 292)) %U %S" -a -o times "$program" flood "$((count / 292))"
-    /usr/bin/time -f "midi $((count * 10)) %U %S" -a -o times "$program" midi "$((count / 100))"
-    /usr/bin/time -f "bound $((count / 10)) %U %S" -a -o times "$program" bound "$((count / 10))"
+    /usr/bin/time -f "hit $count %U %S" -a -o times "$program" messages hit "$count"
+    /usr/bin/time -f "flood $((count / 292 * 292)) %U %S" -a -o times "$program" messages flood "$((count / 292))"
+    /usr/bin/time -f "midi $((count * 10)) %U %S" -a -o times "$program" messages midi "$((count / 100))"
+    /usr/bin/time -f "bound $((count / 10)) %U %S" -a -o times "$program" messages bound "$((count / 10))"
     run=$((run + 1))
 done
 python3 - <<'PY'

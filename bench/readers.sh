@@ -4,7 +4,7 @@
 #
 #   bench/readers.sh PROGRAM [RUNS]
 #
-# PROGRAM is that of the crate text_vectors. Prints, for each, the least and the median of wall and of processor seconds and
+# PROGRAM is that of the crate vectors. Prints, for each, the least and the median of wall and of processor seconds and
 # the greatest memory. It needs python3 and GNU time.
 set -eu
 program=$(realpath "$1")

@@ -4,7 +4,7 @@
 #
 #   bench/rings.sh PROGRAM [COUNT [CAPACITY [RUNS]]]
 #
-# PROGRAM is crates/rings_bench/out/rings_bench, made by `rt run` in that crate's folder. Prints the least and the median of
+# PROGRAM is crates/benches/out/benches, made by `rt run` in that crate's folder. Prints the least and the median of
 # the runs, in nanoseconds of the clock and of the processor an item, and the ratios. It needs python3 and GNU time.
 set -eu
 program=$(realpath "$1")
@@ -18,7 +18,7 @@ run=0
 while [ "$run" -lt "$runs" ]; do
     for threads in one two; do
         for kind in ring bare; do
-            /usr/bin/time -f "$kind $threads %e %U %S" -a -o times "$program" "$kind" "$threads" "$count" "$capacity"
+            /usr/bin/time -f "$kind $threads %e %U %S" -a -o times "$program" rings "$kind" "$threads" "$count" "$capacity"
         done
     done
     run=$((run + 1))

@@ -4,7 +4,7 @@
 #
 #   bench/strip.sh PROGRAM [RUNS [TIMES]]
 #
-# PROGRAM is crates/strip_bench/out/strip_bench, made by `rt run` in that crate's folder. Each number is in nanoseconds a frame, the
+# PROGRAM is crates/benches/out/benches, made by `rt run` in that crate's folder. Each number is in nanoseconds a frame, the
 # least of RUNS runs of the program, each of which takes the least of TIMES. At the end stand the goals. It needs python3.
 set -eu
 program=$(realpath "$1")
@@ -21,7 +21,7 @@ CALLS = ['play', 'play_backward', 'overdub', 'overdub_again']
 def least(kind, written, span):
     told = {}
     for _ in range(runs):
-        out = subprocess.run([program, kind, str(written), str(span), times], capture_output=True, text=True, check=True)
+        out = subprocess.run([program, 'strip', kind, str(written), str(span), times], capture_output=True, text=True, check=True)
         for line in out.stdout.split('\n'):
             if line:
                 name, number = line.split()

@@ -1,5 +1,5 @@
 #!/usr/bin/env python3
-"""Puts vectors of messages to the program message_vectors, and compares what it tells.
+"""Puts vectors of messages to the program vectors, and compares what it tells.
 
     checks/message_vectors.py PROGRAM CASES
     checks/message_vectors.py --lines CASES [EVERY]

@@ -1,5 +1,5 @@
 #!/bin/sh
-# text_vectors.sh PROGRAM CASES: the vectors of texts in the folder CASES, read by the program of the crate text_vectors, and
+# text_vectors.sh PROGRAM CASES: the vectors of texts in the folder CASES, read by the program of the crate vectors, and
 # every prefix of some valid files. It needs python3.
 # The last line is `N passed, N failed`. The status is 0 where none failed.
 exec python3 - "$1" "$2" <<'PY'

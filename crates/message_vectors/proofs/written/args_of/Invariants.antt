@@ -1,6 +1,0 @@
-use Rattle.std.proofs.Common.{All}
-use Rattle.osc_reader.specs.Written.{IsPlain}
-use Rattle.message_vectors.proofs.written.args_of.Given as goal
-
-abbrev pub invariant-words : goal.invariant-words
-invariant-words l = All IsPlain l.args.items

@@ -1,8 +1,0 @@
-use Rattle.std.proofs.Common.{◌≡◌, ◌<◌, length}
-use Rattle.strip_bench.proofs.plain.all.Given as goal
-
-abbrev pub invariant-loop : goal.invariant-loop
-invariant-loop l = record {
-  some : 0 < length l.list;
-  same_length : length l.input ≡ length l.heard;
-}

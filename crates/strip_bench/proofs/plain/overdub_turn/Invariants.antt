@@ -1,9 +1,0 @@
-use Rattle.std.proofs.Common.{◌≡◌, ◌<◌, length}
-use Rattle.strip_bench.proofs.plain.overdub_turn.Given as goal
-
-abbrev pub invariant-loop : goal.invariant-loop
-invariant-loop l = record {
-  place : l.place < length l.list;
-  same_list : length l.list ≡ length l.fn.list;
-  same_heard : length l.input ≡ length l.heard;
-}

@@ -1,5 +1,0 @@
-use Rattle.std.proofs.Common.{◌<◌, length}
-use Rattle.strip_bench.proofs.plain.play_turn.Given as goal
-
-abbrev pub invariant-loop : goal.invariant-loop
-invariant-loop l = l.place < length l.list
