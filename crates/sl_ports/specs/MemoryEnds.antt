@@ -36,6 +36,10 @@ abbrev pub files_of : List File → Files
 files_of written name =
     option_map (λ file. file.bytes) (find (λ file. bytes_eq file.name name) (reverse written))
 
+-- the files that a keeper in memory holds, by name
+abbrev pub files_in : KeeperState → Files
+files_in keeper = files_of keeper.written
+
 -- the bytes held after a write with this answer
 abbrev pub bytes_after : List ℕ → List ℕ → SinkAnswer → List ℕ
 bytes_after held bytes Done = held ++ bytes

@@ -3,33 +3,33 @@
 ghost use Rattle.std.specs.Prelude.{◌≡◌, None, if◌then◌else◌};
 ghost use Rattle.sl_base.specs.Counting.{raised};
 ghost use Rattle.sl_ports.specs.Reading.{is_failed};
+ghost use Rattle.sl_ports.specs.Keeping.{is_failed as is_unwritten};
 
+use crate::first_fault::{FirstFault, Tried};
 use crate::keepers::{FileAnswer, KeepAnswer, Keeper};
-use crate::transfer::{read_whole, write_whole};
+use crate::new_file::put_in_place;
+use crate::transfer::read_whole;
 use sl_base::Name;
 use std::alloc::Global;
-use std::fs::{File, OpenFile};
+use std::fs::File;
 use std::io::ErrorKind;
 use std::marker::Model;
 use std::rt::Files;
 use std::{fs, io};
 
-/// The file that a write makes before it takes the place of the named one. No `Name` begins with a
-/// dot.
-pub const NEW_FILE: &str = ".looper-new";
-
-/// Keeps the files of the working directory. It tells nothing of what they hold.
+/// Keeps the files of the working directory. It tells nothing of what they hold, and remembers the
+/// first call that failed.
 ///
 /// A file that isn't read to its end in 4294967296 turns is answered `Failed`. A write makes a new
-/// file, `.looper-new`, and renames it once the system has taken all of it to the disk, so that the
-/// named file is the old one or the new one whatever happens. A write that is stopped from outside
-/// leaves `.looper-new` behind, and the next one begins it anew. So only one program at a time may
-/// write in a folder.
+/// file and renames it once the system has taken all of it to the disk, so that the named file is
+/// the old one or the new one whatever happens. It holds the folder's lock the while, so that of
+/// two programs that write in one folder each writes its own files, one after the other.
 #[derive(Drop)]
 pub struct DirKeeper<R> {
     rt: R,
     read_faults: u64,
     write_faults: u64,
+    first: Option<FirstFault>,
 }
 
 impl<R> Model for DirKeeper<R> {
@@ -49,71 +49,56 @@ impl<R> DirKeeper<R> {
             rt,
             read_faults: 0,
             write_faults: 0,
+            first: None,
         }
     }
 
-    /// Counts a reading that failed.
-    fn count(&mut self, failed: bool)
+    /// The first call that failed, if any did.
+    pub fn first_fault(&self) -> Option<&FirstFault> {
+        self.first.as_ref()
+    }
+
+    fn remember(&mut self, tried: Tried, name: &Name, error: io::Error)
+        ensures { self.new ≡ self.old }
+    {
+        if self.first.is_some() {
+            return;
+        }
+        if let Ok(file) = name.clone() {
+            self.first = Some(FirstFault { tried, file, error });
+        }
+    }
+
+    /// The answer to a reading that didn't succeed, counted where it failed.
+    fn unread(&mut self, name: &Name, error: io::Error) -> FileAnswer
         ensures { self.new ≡ record self.old {
-          reads = if failed then raised self.old.reads else self.old.reads;
+          reads = if is_failed result then raised self.old.reads else self.old.reads;
         } }
     {
-        if failed {
-            self.read_faults = self.read_faults.saturating_add(1);
+        if error.kind() == ErrorKind::OutOfMemory {
+            return FileAnswer::Memory;
         }
+        self.read_faults = self.read_faults.saturating_add(1);
+        self.remember(Tried::Read, name, error);
+        FileAnswer::Failed
+    }
+
+    /// The answer to a write that didn't succeed, counted where it failed.
+    fn unwritten(&mut self, name: &Name, error: io::Error) -> KeepAnswer
+        ensures { self.new ≡ record self.old {
+          writes = if is_unwritten result then raised self.old.writes else self.old.writes;
+        } }
+    {
+        if error.kind() == ErrorKind::OutOfMemory {
+            return KeepAnswer::Memory;
+        }
+        self.write_faults = self.write_faults.saturating_add(1);
+        self.remember(Tried::Write, name, error);
+        KeepAnswer::Failed
     }
 }
 
-fn is_failed(answer: &FileAnswer) -> bool
-    ensures { result ≡ is_failed answer.now }
-{
-    match answer {
-        FileAnswer::Failed => true,
-        FileAnswer::Bytes(_) | FileAnswer::Missing | FileAnswer::Memory => false,
-    }
-}
-
-/// Why a file wasn't opened.
-fn unopened(e: &io::Error) -> FileAnswer {
-    match e.kind() {
-        ErrorKind::NotFound => FileAnswer::Missing,
-        ErrorKind::OutOfMemory => FileAnswer::Memory,
-        _ => FileAnswer::Failed,
-    }
-}
-
-fn read_named<R: Files>(rt: &R, alloc: Global, name: &str) -> FileAnswer {
-    match fs::open(rt, name) {
-        Ok(mut file) => read_whole(alloc, &mut file),
-        Err(e) => unopened(&e),
-    }
-}
-
-/// Makes the new file, whole and on the disk. One that an earlier write left is removed first, and
-/// never written through, whatever it is.
-fn write_new<R: Files>(rt: &R, bytes: &[u8]) -> io::Result<()> {
-    let _ = fs::remove_file(rt, NEW_FILE);
-    let mut file = File::create_new(rt, NEW_FILE)?;
-    write_whole(&mut file, bytes)?;
-    file.sync_all()
-}
-
-/// Puts a new file in the place of the named one.
-fn put_in_place<R: Files>(rt: &R, name: &str, bytes: &[u8]) -> io::Result<()> {
-    write_new(rt, bytes)?;
-    fs::rename(rt, NEW_FILE, name)
-}
-
-/// Writes a whole file, or leaves the named one as it was and no rest of the new one.
-fn write_named<R: Files>(rt: &R, name: &str, bytes: &[u8]) -> io::Result<()> {
-    let put = put_in_place(rt, name, bytes);
-    if put.is_err() {
-        let _ = fs::remove_file(rt, NEW_FILE);
-    }
-    put
-}
-
-impl<R: Files> Keeper for DirKeeper<R> {
+impl<R: Files<File = File> + Drop> Keeper for DirKeeper<R> {
     ghost read_faults = { λ k. k.reads };
 
     ghost write_faults = { λ k. k.writes };
@@ -121,19 +106,21 @@ impl<R: Files> Keeper for DirKeeper<R> {
     ghost files = { λ _. None };
 
     fn read_file(&mut self, alloc: Global, name: &Name) -> FileAnswer {
-        let answer = read_named(&self.rt, alloc, name.as_str());
-        self.count(is_failed(&answer));
-        answer
+        let mut file = match fs::open(&self.rt, name.as_str()) {
+            Ok(file) => file,
+            Err(e) if e.kind() == ErrorKind::NotFound => return FileAnswer::Missing,
+            Err(e) => return self.unread(name, e),
+        };
+        match read_whole(alloc, &mut file) {
+            Ok(bytes) => FileAnswer::Bytes(bytes),
+            Err(e) => self.unread(name, e),
+        }
     }
 
     fn write_file(&mut self, _alloc: Global, name: &Name, bytes: &[u8]) -> KeepAnswer {
-        match write_named(&self.rt, name.as_str(), bytes) {
+        match put_in_place(&self.rt, name.as_str(), bytes) {
             Ok(()) => KeepAnswer::Done,
-            Err(e) if e.kind() == ErrorKind::OutOfMemory => KeepAnswer::Memory,
-            Err(_) => {
-                self.write_faults = self.write_faults.saturating_add(1);
-                KeepAnswer::Failed
-            }
+            Err(e) => self.unwritten(name, e),
         }
     }
 }

@@ -34,7 +34,7 @@ pub enum KeepAnswer {
 }
 
 /// Keeps files by name: a directory, a list in memory.
-pub trait Keeper {
+pub trait Keeper: Drop {
     // The number of readings that failed.
     ghost read_faults: { Self → ℕ };
 

@@ -10,21 +10,25 @@
 //!   isn't told.
 //! - Want of memory is an answer of its own, and no count tells of it.
 //! - `MemSink` and `MemKeeper` stand in memory, and fail at the calls whose numbers they are given.
-//!   `StdSink` and `DirKeeper` are the real ones.
+//!   `StdSink` and `DirKeeper` are the real ones, which remember the first call that failed, for the
+//!   program to tell.
 //!
 //! Begin with `sinks` and `keepers`. The rules are "The outside" in docs/rules.md.
 #![tactic(auto)]
 
 mod calls;
 mod dir_keeper;
+mod first_fault;
 mod keepers;
 mod mem_keeper;
 mod mem_sink;
+mod new_file;
 mod sinks;
 mod std_sink;
 mod transfer;
 
 pub use dir_keeper::DirKeeper;
+pub use first_fault::{FirstFault, Tried};
 pub use keepers::{FileAnswer, KeepAnswer, Keeper};
 pub use mem_keeper::MemKeeper;
 pub use mem_sink::MemSink;

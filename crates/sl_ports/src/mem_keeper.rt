@@ -5,7 +5,7 @@ ghost use Rattle.std.specs.Option.{option_copied};
 ghost use Rattle.std.specs.Str.{bytes_eq};
 ghost use Rattle.sl_ports.specs.Calls.{untried, is_to_fail, counted};
 ghost use Rattle.sl_ports.specs.Keeping.{is_failed as write_failed};
-ghost use Rattle.sl_ports.specs.MemoryEnds.{files_of, written_after, IsCopy};
+ghost use Rattle.sl_ports.specs.MemoryEnds.{files_in, written_after, IsCopy};
 ghost use Rattle.sl_ports.specs.Reading.{Reads, is_failed as read_failed};
 
 use crate::calls::Calls;
@@ -102,7 +102,7 @@ impl MemKeeper {
 
     /// The bytes of the file under a name, or None where there is no such file.
     pub fn file(&self, name: &Name) -> Option<&[u8]>
-        ensures { option_copied result ≡ files_of self.now.written name.now }
+        ensures { option_copied result ≡ files_in self.now name.now }
     {
         let last = self.written.iter().rev().find(|file| file.is_named(name))?;
         Some(last.as_slice())
@@ -114,11 +114,11 @@ impl Keeper for MemKeeper {
 
     ghost write_faults = { λ k. k.writes.faults };
 
-    ghost files = { λ k. Some (files_of k.written) };
+    ghost files = { λ k. Some (files_in k) };
 
     fn read_file(&mut self, alloc: Global, name: &Name) -> FileAnswer
         ensures listed { read_failed result ≡ is_to_fail self.old.reads }
-        ensures value { Reads (Some (files_of self.old.written)) name.now result }
+        ensures value { Reads (Some (files_in self.old)) name.now result }
         ensures after { self.new ≡ record self.old
             { reads = counted self.old.reads (read_failed result) } }
     {

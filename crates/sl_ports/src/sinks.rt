@@ -14,7 +14,7 @@ pub enum SinkAnswer {
 }
 
 /// Takes bytes in order: a console, raw audio, a list in memory.
-pub trait Sink {
+pub trait Sink: Drop {
     // The number of writes that failed.
     ghost faults: { Self → ℕ };
 

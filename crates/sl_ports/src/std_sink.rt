@@ -7,11 +7,13 @@ use crate::transfer::write_whole;
 use std::io;
 use std::marker::Model;
 
-/// Writes to standard output, at once and with no buffer. It tells nothing of what was written.
+/// Writes to standard output, at once and with no buffer. It tells nothing of what was written, and
+/// remembers the first error.
 #[derive(Drop)]
 pub struct StdSink<R> {
     rt: R,
     faults: u64,
+    first: Option<io::Error>,
 }
 
 impl<R> Model for StdSink<R> {
@@ -27,11 +29,20 @@ impl<R> StdSink<R> {
     pub fn new(rt: R) -> StdSink<R>
         ensures { result ≡ 0 }
     {
-        StdSink { rt, faults: 0 }
+        StdSink {
+            rt,
+            faults: 0,
+            first: None,
+        }
+    }
+
+    /// The system's error at the first write that failed, if any did.
+    pub fn first_fault(&self) -> Option<&io::Error> {
+        self.first.as_ref()
     }
 }
 
-impl<R: Print> Sink for StdSink<R> {
+impl<R: Print + Drop> Sink for StdSink<R> {
     ghost faults = { λ s. s };
 
     ghost held = { λ _. None };
@@ -39,8 +50,11 @@ impl<R: Print> Sink for StdSink<R> {
     fn write_all(&mut self, bytes: &[u8]) -> SinkAnswer {
         match write_whole(&mut io::writer(&self.rt), bytes) {
             Ok(()) => SinkAnswer::Done,
-            Err(_) => {
+            Err(e) => {
                 self.faults = self.faults.saturating_add(1);
+                if self.first.is_none() {
+                    self.first = Some(e);
+                }
                 SinkAnswer::Failed
             }
         }

@@ -1,7 +1,7 @@
 //! Each end once, over memory and over real files and streams.
 
-use crate::dir_keeper::NEW_FILE;
 use crate::keepers::{FileAnswer, KeepAnswer, Keeper};
+use crate::new_file::LOCKED;
 use crate::sinks::{Sink, SinkAnswer};
 use crate::{DirKeeper, MemKeeper, MemSink, StdSink};
 use sl_base::Name;
@@ -72,7 +72,7 @@ fn a_real_file_is_read_as_it_was_written(rt: HostRuntime) -> Result<(), Fail> {
     assert_eq!(rt; told(&read), long.as_slice());
     assert_eq!(rt; keeper.write_file(alloc, &file, b"short"), KeepAnswer::Done);
     assert_eq!(rt; told(&keeper.read_file(alloc, &file)), b"short".as_slice());
-    assert!(rt; !fs::exists(&rt, NEW_FILE)?, "the new file has its name");
+    assert!(rt; !fs::exists(&rt, LOCKED[0])?, "the new file has its name");
     fs::remove_file(&rt, file.as_str())?;
     assert_eq!(rt;
         told(&keeper.read_file(alloc, &file)),
@@ -90,9 +90,15 @@ fn a_directory_is_neither_read_nor_written(rt: HostRuntime) -> Result<(), Fail> 
     let read = keeper.read_file(alloc, &folder);
     let wrote = keeper.write_file(alloc, &folder, b"bytes");
     fs::remove_dir(&rt, folder.as_str())?;
-    assert!(rt; !fs::exists(&rt, NEW_FILE)?, "no rest is left");
+    assert!(rt; !fs::exists(&rt, LOCKED[0])?, "no rest is left");
     assert_eq!(rt; told(&read), b"(failed)".as_slice());
     assert_eq!(rt; wrote, KeepAnswer::Failed);
+    let first = keeper.first_fault().ok_or("no fault")?;
+    let text = format!(in alloc; "{first}")?;
+    assert_eq!(rt;
+        text.as_str(),
+        "cannot read sl_ports-test.dir: Is a directory (os error 21)"
+    );
     Ok(())
 }
 
