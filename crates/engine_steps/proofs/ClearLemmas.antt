@@ -67,14 +67,14 @@ commands_clear_nothing en e other =
     record { kept = other_clears en.sender en.command (length e.looper.tracks) e.sending other }
 
 -- a release of one save answers none that is apart from it
-apart_unanswered : (target other : Target) → AreApart target other → answers target other ≡ false
+pub apart_unanswered : (target other : Target) → AreApart target other → answers target other ≡ false
 apart_unanswered (One i) (One k) apart = ne_eqb k i (λ is. apart (sym is))
 apart_unanswered (One i) All apart = absurd apart
 apart_unanswered (One i) Selected apart = absurd apart
 apart_unanswered All other apart = absurd apart
 apart_unanswered Selected other apart = absurd apart
 
-all_stay : (target : Target) (saves : List Save) →
+pub all_stay : (target : Target) (saves : List Save) →
     AllByRecursion (λ (s : Save). AreApart target s.target) saves →
     filter (λ (s : Save). not (answers target s.target)) saves ≡ saves
 all_stay target [] all = refl

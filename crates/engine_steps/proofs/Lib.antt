@@ -4,3 +4,5 @@ pub mod ClearLemmas
 pub mod ReachedLemmas
 pub mod IdleLemmas
 pub mod MoreLoopsLemmas
+pub mod DueLemmas
+pub mod SentLemmas

@@ -1,17 +1,19 @@
 -- Taking an entry, playing frames and sending a block keep an engine in step.
-use Rattle.std.proofs.Common.{◌≡◌, ℕ, zero, suc, ◌+◌, ◌-◌, ◌≤◌, ◌<◌, Bool, true, false, List, [], ◌∷◌, ◌++◌, length, drop, Option, Some, None, refl, sym, ap, ap₂, ◌∙◌, subst, arith, append_assoc, append-nil, add-zero, length-append, cond, not}
+use Rattle.std.proofs.Common.{◌≡◌, ℕ, zero, suc, ◌+◌, ◌-◌, ◌≤◌, ◌<◌, Bool, true, false, List, [], ◌∷◌, ◌++◌, length, drop, Option, Some, None, refl, sym, ap, ap₂, ◌∙◌, subst, arith, append_assoc, append-nil, add-zero, length-append, cond, not, nat_le, ◌&&◌}
 use Rattle.std.specs.List.{All, filter}
-use Rattle.std.specs.Prelude.{option_to_list, ◌==◌}
-use Rattle.std.proofs.lemmas.Bool.{eqb-true, eqb-false}
+use Rattle.std.specs.Prelude.{option_to_list, ◌==◌, IsTrue}
+use Rattle.std.proofs.lemmas.Bool.{eqb-true, eqb-false, le-leb, eq-eqb}
 use Rattle.std.proofs.Math.Seq.{drop-append_seam}
 use Rattle.std.proofs.lemmas.List.{drop-append-le}
-use Rattle.std.proofs.lemmas.List.Elements.{All-cons, All-nil, All-weaker, All-append, filter-append}
+use Rattle.std.proofs.lemmas.List.Elements.{All-cons, All-nil, All-head, All-tail, All-weaker, All-append, filter-append}
 use Rattle.sl_base.specs.Sounds.{Sound}
 use Rattle.sl_commands.specs.declared.Block.{Block}
 use Rattle.sl_commands.specs.declared.Entry.{Entry}
 use Rattle.sl_commands.specs.declared.Reply.{Reply}
 use Rattle.sl_commands.specs.declared.Command.{Command}
 use Rattle.sl_commands.specs.declared.Command.TheVariants.{Down, Up, Hit, Set, SetGlobal, Get, GetGlobal, SaveLoop, SaveSession, Release, Quit}
+use Rattle.sl_commands.specs.Entries.{entries_of, last_frame_from, last_frame, may_be_next, are_stamped}
+use Rattle.sl_commands.proofs.EntriesLemmas.{are_stamped-push}
 use Rattle.looper_rules.specs.Looper.{Looper}
 use Rattle.looper_rules.specs.Saves.{Save}
 use Rattle.looper_rules.specs.Entries.{is_taken, applied, reply, save}
@@ -21,7 +23,7 @@ use Rattle.looper_rules.specs.Cuts.{begun_on, ran_on, joined}
 use Rattle.looper_rules.specs.Unanswered.{still_unanswered, unanswered_after, unanswered, answers}
 use Rattle.looper_rules.specs.SaveBlocks.{blocks_of_save, blocks_for_all}
 use Rattle.looper_laws.proofs.Runs.Cuts.{begun-append, run-cut, run-more}
-use Rattle.frame_stamp.specs.Journals.{JournalOf}
+use Rattle.frame_stamp.specs.Journals.{JournalOf, next_seq}
 use Rattle.engine_steps.specs.Engines.{EngineOf, Beginning, first_looper, waiting, left, next_block, first_of, left_unanswered, ClearsSent, took, went_on, put_out, sent_of, sent_from, block_sent}
 use Rattle.engine_steps.specs.InStep.{SoFar, IsInStep, IsPart, with_taken, with_frames, with_block}
 use Rattle.engine_steps.proofs.UnansweredLemmas.{unanswered-one_more, unanswered-more_frames}
@@ -66,6 +68,26 @@ before_more es en frame now before =
     (All-cons (λ (e : Entry). e.frame ≤ frame) en [] here
     (All-nil (λ (e : Entry). e.frame ≤ frame)))
 
+-- the last frame is among them
+last_within : (first frame : ℕ) (es : List Entry) → first ≤ frame →
+    All (λ (e : Entry). e.frame ≤ frame) es → last_frame_from first es ≤ frame
+last_within first frame [] within before = within
+last_within first frame (e ∷ es) within before =
+    last_within e.frame frame es (All-head (λ (x : Entry). x.frame ≤ frame) e es before)
+    (All-tail (λ (x : Entry). x.frame ≤ frame) e es before)
+
+-- a stamped journal has one entry of the moment more
+stamped_more : (es : List Entry) (en : Entry) (frame : ℕ) → en.frame ≡ frame →
+    All (λ (e : Entry). e.frame ≤ frame) es → en.seq ≡ next_seq en.sender es →
+    are_stamped es ≡ true → are_stamped (es ++ en ∷ []) ≡ true
+stamped_more es en frame now before next stamped =
+    let last : last_frame es ≤ frame = last_within 0 frame es (omega arith) before
+    in let here : last_frame es ≤ en.frame = omega arith
+    in are_stamped-push es en
+    ∙ ap₂ (λ a b. a && b) stamped
+    (ap₂ (λ a b. a && b) (le-leb (last_frame es) en.frame here)
+    (eq-eqb en.seq (length (entries_of en.sender es)) next))
+
 -- what stays unanswered of two lists
 kept-append_in : (command : Command) (xs ys : List Save) →
     still_unanswered command (xs ++ ys) ≡ still_unanswered command xs ++ still_unanswered command ys
@@ -102,7 +124,7 @@ waiting_took en e clears =
     ∙ sym (left_unanswered-append en e.looper e.due e.sending))
 
 -- the blocks of more saves
-blocks_for_all-append : (xs ys : List Save) →
+pub blocks_for_all-append : (xs ys : List Save) →
     blocks_for_all (xs ++ ys) ≡ blocks_for_all xs ++ blocks_for_all ys
 blocks_for_all-append [] ys = refl
 blocks_for_all-append (x ∷ xs) ys =
@@ -134,9 +156,9 @@ left_more part saves more is = ap (drop part) (blocks_for_all-append saves more)
 
 pub took_in_step :
     (b : Beginning) (s : SoFar) (en : Entry) (e : EngineOf) → en.frame ≡ e.frames →
-    ClearsSent en e → IsInStep b s e →
+    en.seq ≡ next_seq en.sender e.journal.entries → ClearsSent en e → IsInStep b s e →
     IsInStep b (with_taken (reply en e.looper) (save en e.looper) s) (took en e)
-took_in_step b s en e now clears h =
+took_in_step b s en e now next clears h =
     let first = first_looper b
     in let made = option_to_list (save en e.looper)
     in let late : length s.input ≤ en.frame = (let is = h.frames in omega arith)
@@ -154,6 +176,8 @@ took_in_step b s en e now clears h =
           ∙ append_assoc s.sent (left e) (blocks_for_all made)
           ∙ ap (λ bs. s.sent ++ bs) (sym (left_more e.part e.sending made h.part));
       part = part_more e.sending e.part (save en e.looper) h.part;
+      quota = h.quota;
+      stamped = stamped_more e.journal.entries en e.frames now h.before next h.stamped;
     }
 
 -- frames with no entry among them answer nothing and save nothing
@@ -223,6 +247,8 @@ went_on_in_step b s xs e h =
           ∙ sym (unanswered-more_frames e.journal.entries s.input xs first before);
       blocks = h.blocks;
       part = h.part;
+      quota = h.quota;
+      stamped = h.stamped;
     }
 
 -- the first of what is left, and the rest of it
@@ -242,13 +268,13 @@ zero_is_part [] = refl
 zero_is_part (s ∷ saves) = some_blocks s
 
 -- one block more of the first save, by whether it was its last
-record Sends (before e : EngineOf) : Type 0 where
-  waiting : waiting e ≡ waiting before
-  left : left before ≡ option_to_list (next_block before) ++ left e
-  part : IsPart e.sending e.part
+pub record Sends (before e : EngineOf) : Type 0 where
+  pub waiting : waiting e ≡ waiting before
+  pub left : left before ≡ option_to_list (next_block before) ++ left e
+  pub part : IsPart e.sending e.part
 
 -- an engine that is sending these saves
-abbrev sending_of : EngineOf → List Save → EngineOf
+abbrev pub sending_of : EngineOf → List Save → EngineOf
 sending_of e saves = record e { sending = saves }
 
 sends_by : (last : Bool) (s : Save) (saves : List Save) (e : EngineOf) →
@@ -281,7 +307,7 @@ sends_by false s saves e is less =
       part = (let within : e.part + 1 < length (blocks_of_save s) = omega arith in within);
     }
 
-sends : (saves : List Save) (e : EngineOf) → IsPart saves e.part →
+pub sends : (saves : List Save) (e : EngineOf) → IsPart saves e.part →
     Sends (sending_of e saves) (sent_from saves (sending_of e saves))
 sends [] e is =
     record {
@@ -311,6 +337,8 @@ in_step_by b s e next looper journal frames now h =
       blocks = h.blocks ∙ ap (λ bs. s.sent ++ bs) now.left
           ∙ sym (append_assoc s.sent (option_to_list (next_block e)) (left next));
       part = now.part;
+      quota = ap (λ (j : JournalOf). j.quota) journal ∙ h.quota;
+      stamped = subst (λ (j : JournalOf). IsTrue (are_stamped j.entries)) (sym journal) h.stamped;
     }
 
 sent_by : (last : Bool) (b : Beginning) (s : SoFar) (x : Save) (saves : List Save) (e : EngineOf) →

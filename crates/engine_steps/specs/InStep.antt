@@ -1,13 +1,15 @@
 -- An engine is in step with what went in and came out where these are the run of its journal: the
 -- output, the replies and the saves so far, and the looper. The saves that it holds are the
 -- unanswered ones of that run, and the blocks that were sent, followed by those that are left, are
--- the blocks of all its saves, in their order.
+-- the blocks of all its saves, in their order. Its journal is stamped, and has the quota with which
+-- the engine began.
 -- "The run" and "Blocks of a save" in docs/rules.md.
-use Rattle.std.specs.Prelude.{◌≡◌, ◌≤◌, ◌<◌, ℕ, List, [], ◌∷◌, ◌++◌, length, All, Option, option_to_list}
+use Rattle.std.specs.Prelude.{◌≡◌, ◌≤◌, ◌<◌, ℕ, List, [], ◌∷◌, ◌++◌, length, All, Option, option_to_list, IsTrue}
 use Rattle.sl_base.specs.Sounds.{Sound}
 use Rattle.sl_commands.specs.declared.Block.{Block}
 use Rattle.sl_commands.specs.declared.Entry.{Entry}
 use Rattle.sl_commands.specs.declared.Reply.{Reply}
+use Rattle.sl_commands.specs.Entries.{are_stamped}
 use Rattle.looper_rules.specs.Saves.{Save}
 use Rattle.looper_rules.specs.Run.{run}
 use Rattle.looper_rules.specs.Unanswered.{unanswered}
@@ -57,3 +59,5 @@ pub record IsInStep (b : Beginning) (s : SoFar) (e : EngineOf) : Type 0 where
   pub unanswered : waiting e ≡ unanswered e.journal.entries s.input (first_looper b)
   pub blocks : blocks_for_all s.saves ≡ s.sent ++ left e
   pub part : IsPart e.sending e.part
+  pub quota : e.journal.quota ≡ b.quota
+  pub stamped : IsTrue (are_stamped e.journal.entries)

@@ -1,3 +1,4 @@
 pub mod Engines
 pub mod InStep
+pub mod Answering
 pub mod MoreLoops

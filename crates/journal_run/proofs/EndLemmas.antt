@@ -42,6 +42,8 @@ begins_in_step b =
       unanswered = refl;
       blocks = refl;
       part = refl;
+      quota = refl;
+      stamped = refl;
     }
 
 -- a run before all entries and frames

@@ -12,6 +12,7 @@ use Rattle.loop_saver.specs.SavedFiles.{files_of_save, files_for_all}
 use Rattle.loop_saver.specs.Savers.{due_for_all, underway_in}
 use Rattle.loop_saver.proofs.ComeLemmas.{save_blocks_come}
 use Rattle.loop_saver.proofs.DueLemmas.{files_due, save_over}
+use Rattle.frame_stamp.specs.Journals.{next_seq}
 use Rattle.engine_steps.specs.Engines.{EngineOf, Beginning, ClearsSent, left, took}
 use Rattle.engine_steps.specs.InStep.{SoFar, IsInStep, IsPart, with_taken}
 use Rattle.engine_steps.proofs.ClearLemmas.{nothing_left_clears}
@@ -46,19 +47,20 @@ taken_left en e next is step none =
 -- it stays in step
 pub taken_in_step :
     (b : Beginning) (s : SoFar) (en : Entry) (e next : EngineOf) → next ≡ took en e →
-    en.frame ≡ e.frames → ClearsSent en e → IsInStep b s e →
-    IsInStep b (with_taken (reply en e.looper) (save en e.looper) s) next
-taken_in_step b s en e next is now clears h =
+    en.frame ≡ e.frames → en.seq ≡ next_seq en.sender e.journal.entries → ClearsSent en e →
+    IsInStep b s e → IsInStep b (with_taken (reply en e.looper) (save en e.looper) s) next
+taken_in_step b s en e next is now number clears h =
     subst (IsInStep b (with_taken (reply en e.looper) (save en e.looper) s)) (sym is)
-    (took_in_step b s en e now clears h)
+    (took_in_step b s en e now number clears h)
 
 pub taken_somehow : (en : Entry) (e next : EngineOf) → next ≡ took en e → en.frame ≡ e.frames →
-    left e ≡ [] → IsSomehowInStep e → IsSomehowInStep next
-taken_somehow en e next is now none step = record {
+    en.seq ≡ next_seq en.sender e.journal.entries → left e ≡ [] → IsSomehowInStep e →
+    IsSomehowInStep next
+taken_somehow en e next is now number none step = record {
   beginning = step.beginning;
   so_far = with_taken (reply en e.looper) (save en e.looper) step.so_far;
-  step = taken_in_step step.beginning step.so_far en e next is now (may_take en e step none)
-      step.step;
+  step = taken_in_step step.beginning step.so_far en e next is now number
+      (may_take en e step none) step.step;
 }
 
 -- the blocks of one save, if any, may come, and make its files due

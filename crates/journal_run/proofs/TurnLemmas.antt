@@ -84,8 +84,8 @@ stop_in_entry k b es input start done taken x now later saver e out text replies
     let rate = b.settings.rate in
     let made = option_to_list (save en e.looper) in
     let somehow : IsSomehowInStep e = record { beginning = b; so_far = s; step = come.step } in
-    let step = taken_in_step b s en e (took en e) refl refl (may_take en e somehow come.none)
-    come.step in
+    let step = taken_in_step b s en e (took en e) refl refl refl
+    (may_take en e somehow come.none) come.step in
     let at : done ≡ played_before count es (taken + 1) =
     place ∙ sym (played_before-push count es taken x inside is) in
     let behind = subst

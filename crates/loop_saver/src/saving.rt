@@ -68,16 +68,6 @@ impl Model for Saving {
         }) };
 }
 
-/// The index of the first list of a save.
-fn first_index(target: Target) -> u8
-    ensures { result ≡ first_index target }
-{
-    match target {
-        Target::One(index) => index,
-        _ => 0,
-    }
-}
-
 /// Puts frames at the end, or leaves what is held as it was where memory is wanted. The first
 /// frames reserve memory for the `whole` list.
 fn take_in(held: &mut Vec<Frame>, frames: &[Frame], whole: usize) -> bool
@@ -100,7 +90,7 @@ impl Saving {
             name: name.duplicate(),
             target,
             settings: settings.duplicate(),
-            index: first_index(target),
+            index: target.first_index(),
             frames: 0,
             held: Vec::new(alloc),
             ending: Ending::Written,

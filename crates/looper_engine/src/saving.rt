@@ -67,16 +67,6 @@ fn step_for(lanes: &Lanes, target: Target, block: u32) -> Step
     step_at(lengths.as_slice(), block)
 }
 
-/// The index of the loop of a save's first list.
-fn first_index(target: Target) -> u8
-    ensures { result ≡ first_index target }
-{
-    match target {
-        Target::One(index) => index,
-        _ => 0,
-    }
-}
-
 /// So many frames of a pinned list from a place on.
 fn frames_at(lanes: &Lanes, index: u8, place: u32, count: u32) -> PartFrames
     requires index { index < length lanes.now.tracks }
@@ -123,7 +113,7 @@ fn block_of(lanes: &Lanes, pending: &Pending, step: Step) -> Block
     match step {
         Step::Head => head_of(pending),
         Step::Part { list, place, count } => {
-            let index = first_index(pending.target) + list as u8;
+            let index = pending.target.first_index() + list as u8;
             Block::Part {
                 save: pending.number,
                 index,
@@ -154,7 +144,7 @@ pub(crate) fn seek_block(lanes: &mut Lanes, target: Target, block: u32)
     ensures { lanes.new ≡ lanes.old }
 {
     match step_for(lanes, target, block) {
-        Step::Part { list, place, .. } => lanes.seek_saved(first_index(target) + list as u8, place),
+        Step::Part { list, place, .. } => lanes.seek_saved(target.first_index() + list as u8, place),
         _ => {}
     }
 }

@@ -4,3 +4,4 @@ pub mod Places
 pub mod Sizes
 pub mod Comes
 pub mod Counts
+pub mod Askers

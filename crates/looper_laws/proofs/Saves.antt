@@ -12,3 +12,4 @@ pub mod Blocks
 pub mod Parts
 pub mod Prefixes
 pub mod BlockCounts
+pub mod Ends

@@ -55,9 +55,9 @@ pub use saved_lists::{
     saves_are_numbered_in_order, saves_are_those_at_their_entries,
 };
 pub use sent_saves::{
-    a_save_has_so_many_blocks_at_most, blocks_that_may_follow_begin_those_of_saves,
-    each_save_of_a_run_may_be_sent, the_blocks_of_saves_may_follow,
-    the_settings_of_a_looper_lie_in_their_ranges,
+    a_save_ends_with_its_last_block, a_save_has_so_many_blocks_at_most,
+    blocks_that_may_follow_begin_those_of_saves, each_save_of_a_run_may_be_sent,
+    the_blocks_of_saves_may_follow, the_settings_of_a_looper_lie_in_their_ranges,
 };
 pub use shared_room::{
     a_reached_looper_shares_its_chunks, the_room_that_passes_on_is_what_the_others_leave,

@@ -3,7 +3,7 @@
 ghost use Rattle.std.specs.Prelude.{◌≡◌, ℕ, ◌+◌, ◌≤◌, Bool, List, [], ◌∷◌, ◌++◌, length, map, filter, All, Contains, count_by, option_to_list, IsTrue};
 ghost use Rattle.sl_base.specs.Sounds.{Sound};
 ghost use Rattle.sl_commands.specs.declared.Entry.{Entry};
-ghost use Rattle.sl_commands.specs.Entries.{FramesNeverFall, are_stamped};
+ghost use Rattle.sl_commands.specs.Entries.{entries_of, FramesNeverFall, are_stamped};
 ghost use Rattle.sl_commands.specs.Settings.{LooperSettings, are_settings};
 ghost use Rattle.looper_rules.specs.Looper.{Looper};
 ghost use Rattle.looper_rules.specs.Entries.{reply};
@@ -28,6 +28,11 @@ pub fn an_entry_gives_at_most_one_reply_and_one_save()
         length (run_from frame es input l).replies ≤ length es }
     ensures saves { (frame : ℕ) → (es : List Entry) → (input : List Sound) → (l : Looper) →
         length (run_from frame es input l).saves ≤ length es }
+
+    // And no more saves than entries of OSC and MIDI.
+    ensures players { (frame : ℕ) → (es : List Entry) → (input : List Sound) → (l : Looper) →
+        length (run_from frame es input l).saves
+        ≤ length (entries_of 0 es) + length (entries_of 1 es) }
 
     // Of entries of which some are left, no more than of the others.
     ensures begun_replies { (frame : ℕ) → (es : List Entry) → (input : List Sound) → (l : Looper) →

@@ -1,7 +1,7 @@
 //! Each save of a run is one whose blocks may follow, and blocks that may follow are those of
 //! saves.
 
-ghost use Rattle.std.specs.Prelude.{◌≡◌, ℕ, ◌+◌, ◌*◌, ◌/◌, ◌≤◌, List, [], ◌++◌, length, IsTrue, Some, None};
+ghost use Rattle.std.specs.Prelude.{◌≡◌, ℕ, ◌+◌, ◌*◌, ◌/◌, ◌≤◌, ◌<◌, List, [], ◌++◌, length, take, IsTrue, Some, None};
 ghost use Rattle.std.specs.List.{AllByRecursion};
 ghost use Rattle.sl_base.specs.Sounds.{Sound};
 ghost use Rattle.sl_commands.specs.declared.Block.{Block};
@@ -13,7 +13,7 @@ ghost use Rattle.looper_rules.specs.Saves.{Save, settings_of};
 ghost use Rattle.looper_rules.specs.Entries.{save};
 ghost use Rattle.looper_rules.specs.Run.{begun, run, start};
 ghost use Rattle.looper_rules.specs.Cuts.{run_from};
-ghost use Rattle.looper_rules.specs.SaveBlocks.{blocks_of_save, blocks_for_all, IsMade, AreSent, BeginSaves};
+ghost use Rattle.looper_rules.specs.SaveBlocks.{blocks_of_save, blocks_for_all, ends_in, IsMade, AreSent, BeginSaves};
 ghost use Rattle.looper_rules.specs.Reached.{KeepsLooper, IsBeginning};
 
 /// Each save of a run is one whose blocks may follow: its target has as many lists, none is too
@@ -76,4 +76,14 @@ pub fn a_save_has_so_many_blocks_at_most()
 pub fn blocks_that_may_follow_begin_those_of_saves()
     ensures { (blocks : List Block) → (bound : ℕ) → IsTrue (may_all_follow [] blocks bound) →
         BeginSaves bound blocks }
+{}
+
+/// One save ends in the blocks of each, and it does so with the last of them.
+pub fn a_save_ends_with_its_last_block()
+    ensures append { (first next : List Block) →
+        ends_in (first ++ next) ≡ ends_in first + ends_in next }
+    ensures save { (s : Save) → ends_in (blocks_of_save s) ≡ 1 }
+    ensures all { (saves : List Save) → ends_in (blocks_for_all saves) ≡ length saves }
+    ensures before { (count : ℕ) → (s : Save) → count < length (blocks_of_save s) →
+        ends_in (take count (blocks_of_save s)) ≡ 0 }
 {}

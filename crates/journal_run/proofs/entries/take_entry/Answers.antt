@@ -23,7 +23,7 @@ feed-requires-clause-step g c =
     c.take-answer.new.self
     (c.take-answer.ensures.took
     ∙ ap (λ (d : Command). took (entry_of c.args.entry.now.sender d e) e) c.duplicate.ensures)
-    refl c.requires.none c.requires.step
+    refl refl c.requires.none c.requires.step
 
 pub feed-requires-clause-may : goal.feed-requires-clause-may
 feed-requires-clause-may g c =
@@ -59,4 +59,4 @@ returns-clause-step g c =
     (taken_in_step b s en e c.take-answer.new.self
     (c.take-answer.ensures.took
     ∙ ap (λ (d : Command). took (entry_of c.args.entry.now.sender d e) e) c.duplicate.ensures)
-    refl (may_take en e c.requires.step c.requires.none) h))
+    refl refl (may_take en e c.requires.step c.requires.none) h))

@@ -1,4 +1,5 @@
 use Rattle.looper_laws.proofs.Runs.Counts.{begun-few, run_from-few}
+use Rattle.looper_laws.proofs.Runs.Askers.{run_from-saves}
 use Rattle.looper_laws.proofs.replies.an_entry_gives_at_most_one_reply_and_one_save.Goals as goal
 
 pub returns-clause-replies : goal.returns-clause-replies
@@ -12,3 +13,6 @@ returns-clause-begun_replies c frame es input l = (begun-few frame es input l).0
 
 pub returns-clause-begun_saves : goal.returns-clause-begun_saves
 returns-clause-begun_saves c frame es input l = (begun-few frame es input l).1
+
+pub returns-clause-players : goal.returns-clause-players
+returns-clause-players c frame es input l = run_from-saves frame es input l
