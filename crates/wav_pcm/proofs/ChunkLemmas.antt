@@ -1,5 +1,5 @@
 -- Steps and walks over whole chunks.
-use Rattle.std.proofs.Common.{◌≡◌, ◌≢◌, ◌≤◌, ◌<◌, ℕ, zero, suc, ◌+◌, ◌-◌, ◌%◌, nat_lt, List, [], ◌∷◌, ◌++◌, length, take, drop, Option, Some, None, Bool, true, false, true≢false, refl, sym, ap, ◌∙◌, subst, arith, codes, if◌then◌else◌, length-append}
+use Rattle.std.proofs.Common.{◌≡◌, ◌≢◌, ◌≤◌, ◌<◌, ℕ, zero, suc, ◌+◌, ◌-◌, ◌%◌, nat_lt, List, [], ◌∷◌, ◌++◌, length, take, drop, Option, Some, Bool, true, false, true≢false, refl, sym, ap, ◌∙◌, arith, codes, if◌then◌else◌, length-append}
 use Rattle.std.proofs.lemmas.Bool.{ltb-false, ltb-true}
 use Rattle.std.proofs.lemmas.List.{append_assoc, take_at, drop_at, take-append-drop, drop-drop, length-drop, length-take-le}
 use Rattle.std.proofs.lemmas.Slice.Eq.{bytes_eq-Decides}
@@ -7,7 +7,7 @@ use Rattle.std.specs.List.{AllByRecursion}
 use Rattle.std.specs.Str.{bytes_eq}
 use Rattle.byteorder.specs.Endian.{little_number}
 use Rattle.byteorder.specs.Numbers.{little_from-append, little_from-take}
-use Rattle.wav_pcm.specs.Reading.{Walk, Step, stops, starts, passes, step_over, step_of, chunk_size, walked, walk_by, behind, nothing_found}
+use Rattle.wav_pcm.specs.Reading.{Walk, Step, stops, starts, passes, step_over, step_of, chunk_size, walked, walk_by, behind}
 use Rattle.wav_pcm.specs.Files.{Chunk, IsChunk, chunk_bytes, chunks_bytes, first_format}
 
 -- a test of a number that isn't below another

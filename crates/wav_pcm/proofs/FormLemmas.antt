@@ -1,8 +1,8 @@
 -- The form of a file is found exactly where the file is one.
-use Rattle.std.proofs.Common.{◌≡◌, ◌≢◌, ◌≤◌, ◌<◌, ℕ, zero, suc, ◌+◌, ◌-◌, ◌*◌, ◌/◌, ◌%◌, ◌==◌, nat_lt, List, [], ◌∷◌, ◌++◌, length, take, drop, Option, Some, None, Bool, true, false, true≢false, refl, sym, ap, ◌∙◌, subst, arith, codes, if◌then◌else◌, inl, inr, ◌⊎◌, length-append, ◌&&◌, ◌||◌, nat_le}
+use Rattle.std.proofs.Common.{◌≡◌, ◌≤◌, ◌<◌, ℕ, ◌+◌, ◌-◌, ◌*◌, ◌/◌, ◌%◌, ◌==◌, nat_lt, List, [], ◌∷◌, ◌++◌, length, take, drop, Option, Some, None, Bool, true, false, true≢false, refl, sym, ap, ◌∙◌, subst, arith, codes, if◌then◌else◌, inl, inr, ◌⊎◌, length-append, ◌&&◌, ◌||◌, nat_le}
 use Rattle.std.specs.Prelude.{Result, Ok, Err, IfOk, IfErr}
 use Rattle.std.proofs.lemmas.Bool.{ltb-false, eq-eqb, eqb-true, le-leb, leb-true}
-use Rattle.std.proofs.lemmas.List.{append_assoc, take_at, drop_at, take-append-drop, drop-drop, length-drop, length-take-le}
+use Rattle.std.proofs.lemmas.List.{append_assoc, drop_at, take-append-drop, drop-drop, length-drop, length-take-le}
 use Rattle.std.proofs.lemmas.Slice.Eq.{bytes_eq-Decides}
 use Rattle.std.proofs.Math.Nat.{mul-mod_left, mul-div_left, mod-eq-sub-div-mul, div-mul-le_self}
 use Rattle.std.specs.Str.{bytes_eq}
@@ -11,14 +11,14 @@ use Rattle.byteorder.specs.Numbers.{little_from-append, little_from-take}
 use Rattle.sl_base.specs.Sounds.{Sound}
 use Rattle.sl_base.specs.Limits.{max_rate}
 use Rattle.wav_pcm.specs.declared.fault.WavFault.{WavFault}
-use Rattle.wav_pcm.specs.declared.fault.WavFault.TheVariants.{NotRiff, NoFormat, Unsupported, NoData, Truncated, TornFrame}
+use Rattle.wav_pcm.specs.declared.fault.WavFault.TheVariants.{NotRiff, Unsupported, TornFrame}
 use Rattle.wav_pcm.specs.declared.form.WavForm.{WavForm}
 use Rattle.wav_pcm.specs.Forms.{seen_form, form_spelling}
 use Rattle.wav_pcm.specs.WavText.{IsFormat, frame_size}
 use Rattle.wav_pcm.specs.Samples.{frames_in}
 use Rattle.wav_pcm.specs.Reading.{Spelling, FormOf, Walk, is_riff, walk_of, is_spelling, is_supported, is_pcm, spelling_of, open_size, samples_there, form_at, form_behind, form_by, form_of}
-use Rattle.wav_pcm.specs.Files.{Chunk, IsChunk, chunks_bytes, first_format, riff_of, AreThere, IsWav}
-use Rattle.wav_pcm.proofs.ChunkLemmas.{Found, walk_found, walked-chunks, length-chunks, not_below}
+use Rattle.wav_pcm.specs.Files.{chunks_bytes, first_format, riff_of, AreThere, IsWav}
+use Rattle.wav_pcm.proofs.ChunkLemmas.{walk_found, walked-chunks, length-chunks, not_below}
 
 -- the frames of a form that was found in these bytes
 abbrev pub frames_of : FormOf → List ℕ → List Sound

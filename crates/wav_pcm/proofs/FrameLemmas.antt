@@ -1,14 +1,14 @@
 -- Frames read from samples.
-use Rattle.std.proofs.Common.{◌≡◌, ◌≢◌, ◌≤◌, ◌<◌, ℕ, zero, suc, ◌+◌, ◌-◌, ◌*◌, ◌/◌, ◌%◌, ◌^◌, ◌==◌, List, [], ◌∷◌, ◌++◌, length, take, drop, map, set, Bool, true, false, true≢false, refl, sym, ap, ◌∙◌, subst, ◌⊎◌, arith, inl, inr, if◌then◌else◌, length-append}
+use Rattle.std.proofs.Common.{◌≡◌, ◌≢◌, ◌≤◌, ◌<◌, ℕ, suc, ◌+◌, ◌-◌, ◌*◌, ◌/◌, ◌^◌, ◌==◌, List, [], ◌∷◌, ◌++◌, length, take, drop, map, set, Bool, true, false, refl, sym, ap, ◌∙◌, subst, ◌⊎◌, arith, inl, inr, if◌then◌else◌}
 use Rattle.std.specs.Prelude.{ℤ, pos, negsuc, ◌-ℤ◌}
 use Rattle.std.specs.List.{AllByRecursion}
 use Rattle.std.specs.Int.{w16, cast_signed}
-use Rattle.std.proofs.lemmas.Bool.{eq-eqb, eqb-true, lt-ltb}
+use Rattle.std.proofs.lemmas.Bool.{eqb-true, lt-ltb}
 use Rattle.std.proofs.lemmas.Int.{ints}
-use Rattle.std.proofs.lemmas.List.{append_assoc, append-nil, drop-drop, drop_at, take_more_set}
-use Rattle.byteorder.specs.Endian.{little_number, little_bytes, twos_complement}
+use Rattle.std.proofs.lemmas.List.{append_assoc, drop-drop, drop_at, take_more_set}
+use Rattle.byteorder.specs.Endian.{twos_complement}
 use Rattle.byteorder.specs.Numbers.{little_from-append, little_number-reads_back}
-use Rattle.sl_base.specs.Arithmetic.{IsSample, narrowed, widened}
+use Rattle.sl_base.specs.Arithmetic.{IsSample, widened}
 use Rattle.sl_base.specs.Sounds.{IsFrame, Sound, both}
 use Rattle.wav_pcm.specs.WavText.{IsFormat, frame_size, sample_bytes, frame_bytes, samples, twos_complement as bits_of}
 use Rattle.wav_pcm.specs.Kept.{kept, kept_sample}

@@ -5,3 +5,5 @@ pub mod ChunkLemmas
 pub mod FormLemmas
 pub mod FrameLemmas
 pub mod TextLemmas
+pub mod InputLemmas
+pub mod CutLemmas

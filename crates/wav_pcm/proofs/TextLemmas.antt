@@ -1,6 +1,6 @@
 -- A text that is written is a WAV file that is read.
-use Rattle.std.proofs.Common.{◌≡◌, ◌≢◌, ◌≤◌, ◌<◌, ℕ, zero, suc, ◌+◌, ◌-◌, ◌*◌, ◌/◌, ◌%◌, ◌^◌, ◌==◌, ◌&&◌, ◌||◌, nat_le, List, [], ◌∷◌, ◌++◌, length, drop, map, Option, Some, None, Bool, true, false, true≢false, refl, sym, ap, ◌∙◌, subst, arith, codes, if◌then◌else◌, ◌⊎◌, inl, inr, length-append}
-use Rattle.std.specs.Prelude.{Result, Ok, Err}
+use Rattle.std.proofs.Common.{◌≡◌, ◌≤◌, ◌<◌, ℕ, ◌+◌, ◌*◌, ◌%◌, ◌==◌, ◌&&◌, ◌||◌, List, [], ◌∷◌, ◌++◌, length, drop, map, Some, Bool, true, false, true≢false, refl, sym, ap, ◌∙◌, subst, arith, codes, if◌then◌else◌, ◌⊎◌, inl, inr, length-append}
+use Rattle.std.specs.Prelude.{Ok, Err}
 use Rattle.std.specs.List.{AllByRecursion}
 use Rattle.std.proofs.lemmas.Bool.{eq-eqb, le-leb}
 use Rattle.std.proofs.lemmas.Slice.Eq.{bytes_eq-Decides}
@@ -9,14 +9,13 @@ use Rattle.byteorder.specs.Endian.{little_number, little_bytes}
 use Rattle.byteorder.specs.Numbers.{little_number-reads_back}
 use Rattle.sl_base.specs.Limits.{max_rate, max_file_frames}
 use Rattle.sl_base.specs.Sounds.{IsFrame, Sound}
-use Rattle.wav_pcm.specs.declared.fault.WavFault.{WavFault}
 use Rattle.wav_pcm.specs.declared.fault.WavFault.TheVariants.{NotRiff, Unsupported}
 use Rattle.wav_pcm.specs.WavText.{IsFormat, frame_size, samples, samples_size, padding, wav_text}
 use Rattle.wav_pcm.specs.Kept.{kept}
-use Rattle.wav_pcm.specs.Reading.{Spelling, FormOf, Walk, is_riff, walk_of, is_spelling, is_supported, spelling_of, open_size, form_behind, form_by, form_of}
+use Rattle.wav_pcm.specs.Reading.{Spelling, FormOf, Walk, is_riff, walk_of, is_spelling, is_supported, spelling_of, form_behind, form_by, form_of}
 use Rattle.wav_pcm.specs.Files.{Chunk, IsChunk, chunks_bytes, first_format, riff_of, AreThere, IsWav}
 use Rattle.wav_pcm.proofs.WavTextLemmas.{frame_size_within, length-samples}
-use Rattle.wav_pcm.proofs.ChunkLemmas.{walked-chunks, length-chunks}
+use Rattle.wav_pcm.proofs.ChunkLemmas.{walked-chunks}
 use Rattle.wav_pcm.proofs.FormLemmas.{riff_is, riff_long, wav_has_form, frames_of}
 use Rattle.wav_pcm.proofs.FrameLemmas.{frames_in-samples}
 use Rattle.std.proofs.lemmas.List.{drop_at}

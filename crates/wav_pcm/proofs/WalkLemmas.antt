@@ -1,5 +1,5 @@
 -- The walk over chunks, as the code goes.
-use Rattle.std.proofs.Common.{◌≡◌, ◌≤◌, ℕ, zero, suc, ◌-◌, ◌+◌, List, length, Option, Some, None, Bool, true, false, refl, sym, ap, ◌∙◌, arith, codes, if◌then◌else◌}
+use Rattle.std.proofs.Common.{◌≡◌, ◌≤◌, ℕ, zero, suc, ◌+◌, List, Option, Some, None, Bool, true, false, refl, sym, ap, ◌∙◌, arith, codes, if◌then◌else◌}
 use Rattle.std.specs.Str.{bytes_eq}
 use Rattle.wav_pcm.specs.Reading.{Walk, Step, stops, starts, passes, step_of, walked, walk_by, behind, nothing_found}
 use Rattle.wav_pcm.specs.Walking.{earlier, first_of}

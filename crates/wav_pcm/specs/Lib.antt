@@ -6,3 +6,4 @@ pub mod Reading
 pub mod Files
 pub mod Walking
 pub mod Forms
+pub mod Inputs

@@ -4,7 +4,7 @@
 -- far as its form keeps it: 16 bits keep the 256th part, rounded down, and one channel the left
 -- side.
 -- "WAV" in docs/formats.md.
-use Rattle.std.specs.Prelude.{ℕ, zero, suc, ◌*◌, ◌/◌, ◌==◌, if◌then◌else◌, ℤ, List, [], ◌∷◌, length, drop}
+use Rattle.std.specs.Prelude.{ℕ, zero, suc, ◌/◌, ◌==◌, if◌then◌else◌, ℤ, List, [], ◌∷◌, drop}
 use Rattle.std.specs.Int.{w16, cast_signed}
 use Rattle.byteorder.specs.Endian.{little_number, twos_complement}
 use Rattle.sl_base.specs.Arithmetic.{widened}

@@ -8,6 +8,7 @@
 //!   after another.
 //! - `read_frames` and `write_samples` go over the samples of a period in place, in each of the
 //!   four forms, and take no memory.
+//! - An `Input` is a file whose frames are read a span after another, without holding them all.
 //! - `wav_text` and `read_wav` answer `Memory` for want of memory, and nothing is left behind then.
 //!
 //! Begin with `text`, then `file`, `form` and `walk`; `format`, `samples` and `frames` have the
@@ -20,6 +21,7 @@ mod file;
 mod form;
 mod format;
 mod frames;
+mod input;
 mod laws;
 mod samples;
 #[cfg(test)]
@@ -30,8 +32,12 @@ mod walk;
 pub use fault::WavFault;
 pub use file::{Wav, read_wav};
 pub use form::{WavForm, wav_form};
-pub use format::write_header;
+pub use format::{frame_size, write_header};
 pub use frames::read_frames;
-pub use laws::{rate_0_is_not_supported, size_of_text, wav_comes_back, wav_has_one_reading};
+pub use input::Input;
+pub use laws::{
+    frames_are_read_cut_by_cut, rate_0_is_not_supported, samples_stand_behind_one_another,
+    size_of_text, wav_comes_back, wav_has_one_reading,
+};
 pub use samples::write_samples;
 pub use text::wav_text;

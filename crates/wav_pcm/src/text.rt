@@ -37,11 +37,7 @@ pub fn wav_text(
     ensures { IfOk result (λ text. text.items ≡ wav_text frames.now channels bits rate) }
 {
     let size = frames.len() * frame_size(channels, bits);
-    match vec![in alloc; 0u8; 44 + size + size % 2] {
-        Ok(mut text) => {
-            write_text(&mut text, frames, channels, bits, rate);
-            Ok(text)
-        }
-        Err(_) => Err(Memory),
-    }
+    let mut text = vec![in alloc; 0u8; 44 + size + size % 2]?;
+    write_text(&mut text, frames, channels, bits, rate);
+    Ok(text)
 }

@@ -1,4 +1,4 @@
-use Rattle.std.proofs.Common.{ℕ, ◌*◌, ◌∙◌, ap, arith, drop, length, set}
+use Rattle.std.proofs.Common.{ℕ, ◌*◌, ◌∙◌, ap, arith, drop, length}
 use Rattle.std.proofs.lemmas.List.{length-set}
 use Rattle.wav_pcm.specs.Samples.{frame_at}
 use Rattle.wav_pcm.proofs.FrameLemmas.{frames_in-more_set}
