@@ -2,11 +2,11 @@
 //!
 //! ```text
 //! benches layers new 0 0 TIMES
-//! benches layers layers FRAMES RUNS TIMES
+//! benches layers layers FRAMES STREAKS TIMES
 //! benches layers vector FRAMES 0 TIMES
 //! ```
 //!
-//! `layers` has its pool filled before, as it is when live audio begins. It records FRAMES frames, and in a second layer writes RUNS single frames over their second half, apart from one another.
+//! `layers` has its pool filled before, as it is when live audio begins. It records FRAMES frames, and in a second layer writes STREAKS single frames over their second half, apart from one another.
 //! Each line names what was timed, with the least of TIMES in thousandths of a nanosecond: of a call, and of a frame where
 //! frames are written or read one by one.
 
@@ -115,15 +115,15 @@ fn over_vector(rt: &HostRuntime, size: Size) {
 
 /// Times what the words say, or nothing where they are others.
 pub fn timed(rt: &HostRuntime, words: &[String]) -> Option<()> {
-    let [kind, frames, runs, times] = words else {
+    let [kind, frames, streaks, times] = words else {
         return None;
     };
     let frames = number(frames.as_str(), 0, MAX_LIST_FRAMES)?;
-    let runs = number(runs.as_str(), 0, 65536)?;
+    let streaks = number(streaks.as_str(), 0, 65536)?;
     let times = number(times.as_str(), 0, 65536)?;
     let size = Size {
         frames,
-        runs,
+        streaks,
         times,
     };
     match kind.as_str() {

@@ -1,12 +1,12 @@
 //! One loop that plays and overdubs, and the same by hand over one flat list.
 //!
 //! ```text
-//! benches strip loop RUNS SPAN TIMES
+//! benches strip loop STREAKS SPAN TIMES
 //! benches strip plain 0 SPAN TIMES
 //! ```
 //!
 //! The list has 491,520 frames, a little over ten seconds. `loop` has its pool filled before, as it is when live audio begins, and
-//! writes RUNS runs over the list, as long as they fit, so that it has 2 seams and 2 more for each. All frames go in spans of
+//! writes STREAKS streaks over the list, as long as they fit, so that it has 2 seams and 2 more for each. All frames go in spans of
 //! SPAN. Each line names what was timed, with the least of TIMES in thousandths of a nanosecond a frame.
 
 mod measures;
@@ -26,7 +26,7 @@ pub(crate) const FRAMES: u32 = 491520;
 /// The most frames in a span.
 const MOST_SPAN: u32 = 65536;
 
-/// Chunks for the list, for runs over it, and for an overdub of it.
+/// Chunks for the list, for streaks over it, and for an overdub of it.
 const CHUNKS: u32 = 512;
 
 /// So many frames that differ from their neighbours.
@@ -43,7 +43,7 @@ fn frames(rt: &HostRuntime, count: u32) -> Option<Vec<Frame>> {
     Some(out)
 }
 
-fn over_loop(rt: &HostRuntime, runs: u32, span: u32, times: u32) -> Option<()> {
+fn over_loop(rt: &HostRuntime, streaks: u32, span: u32, times: u32) -> Option<()> {
     let input = frames(rt, span)?;
     let mut heard = frames(rt, span)?;
     let Ok(mut pool) = Pool::new(rt.alloc(), CHUNKS) else {
@@ -58,7 +58,7 @@ fn over_loop(rt: &HostRuntime, runs: u32, span: u32, times: u32) -> Option<()> {
         rt,
         &mut strip,
         &mut pool,
-        runs,
+        streaks,
         times,
         &input[..most],
         &mut heard[..most],
@@ -79,14 +79,14 @@ fn over_list(rt: &HostRuntime, span: u32, times: u32) -> Option<()> {
 
 /// Times what the words say, or nothing where they are others.
 pub fn timed(rt: &HostRuntime, words: &[String]) -> Option<()> {
-    let [kind, runs, span, times] = words else {
+    let [kind, streaks, span, times] = words else {
         return None;
     };
-    let runs = number(runs.as_str(), 0, FRAMES)?;
+    let streaks = number(streaks.as_str(), 0, FRAMES)?;
     let span = number(span.as_str(), 0, MOST_SPAN)?;
     let times = number(times.as_str(), 0, 65536)?;
     match kind.as_str() {
-        "loop" => over_loop(rt, runs, span, times),
+        "loop" => over_loop(rt, streaks, span, times),
         "plain" => over_list(rt, span, times),
         _ => None,
     }

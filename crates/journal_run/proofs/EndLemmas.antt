@@ -23,7 +23,7 @@ use Rattle.engine_steps.proofs.ReachedLemmas.{saves_counted}
 use Rattle.journal_run.specs.Clipping.{all_clipped}
 use Rattle.journal_run.specs.Inputs.{InputOf, span_of}
 use Rattle.journal_run.specs.Feeding.{StopsAt}
-use Rattle.looper_lanes.specs.Loopers.{refused_in}
+use Rattle.whole_looper.specs.Loopers.{refused_in}
 use Rattle.journal_run.specs.RunTexts.{reply_lines, numbers_line, run_text}
 use Rattle.journal_run.specs.declared.feeding.Stopped.{Stopped}
 use Rattle.journal_run.specs.declared.feeding.Stopped.TheVariants.{NoMemory}

@@ -7,7 +7,7 @@ use Rattle.std.specs.Fmt.{decimal, signed_decimal}
 use Rattle.sl_commands.specs.declared.Reply.{Reply}
 use Rattle.sl_commands.specs.Replies.{what_name}
 use Rattle.looper_rules.specs.Run.{Ran}
-use Rattle.looper_lanes.specs.Loopers.{refused_in}
+use Rattle.whole_looper.specs.Loopers.{refused_in}
 
 -- the line of a reply
 abbrev pub reply_line : Reply → List ℕ

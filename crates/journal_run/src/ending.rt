@@ -9,7 +9,7 @@ ghost use Rattle.wav_pcm.specs.WavText.{samples, samples_size, padding};
 ghost use Rattle.engine_steps.specs.Engines.{Beginning, first_looper, went_on, put_out};
 ghost use Rattle.journal_run.specs.Performing.{head_of, HasRoomFor, IsFirst, IsPlayable, HasCome, IsComing, EndsRun, Performs};
 ghost use Rattle.journal_run.specs.Inputs.{span_of};
-ghost use Rattle.looper_lanes.specs.Loopers.{refused_in};
+ghost use Rattle.whole_looper.specs.Loopers.{refused_in};
 ghost use Rattle.journal_run.specs.RunTexts.{numbers_line};
 ghost use Rattle.journal_run.specs.declared.feeding.Stopped.TheVariants.{NoMemory};
 

@@ -5,7 +5,7 @@ use Rattle.std.specs.Prelude.{slice_set}
 use Rattle.sl_commands.specs.declared.How.{How}
 use Rattle.sl_commands.specs.declared.How.TheVariants.{Forward, Backward, Insert, Append}
 use Rattle.looper_rules.specs.Layers.{Cell, Layer, contents, fresh_cell}
-use Rattle.looper_rules.specs.Stack.{Stack, Pin, run_broken}
+use Rattle.looper_rules.specs.Stack.{Stack, Pin, streak_broken}
 use Rattle.looper_rules.specs.Mapping.{cell_map, layer_map, pin_map, stack_map}
 use Rattle.looper_rules.specs.Writing.{overwrites, rewritten}
 use Rattle.lazy_fill.specs.Addresses.{Below, Without}
@@ -53,7 +53,7 @@ pub stack-rewritten : {A : Type 0} (f g : ℕ → A) (how : How) (n place a : �
     ((b : ℕ) → b < n → b ≢ a → f b ≡ g b) → f a ≡ x → AllByRecursion (LayerBelow n) layers →
     AllByRecursion (LayerBelow n) s.redo → PinBelow n s.pin → AloneIn place a layers →
     AllByRecursion (LayerWithout a) s.redo → PinWithout a s.pin →
-    stack_map f (run_broken s) ≡ rewritten how place x (stack_map g s)
+    stack_map f (streak_broken s) ≡ rewritten how place x (stack_map g s)
 stack-rewritten f g how n place a x [] s es o e ex lb rb pb w r p = absurd w
 stack-rewritten f g Forward n place a x (l ∷ ls) s es o e ex lb rb pb w r p =
     let z : l.seams + 0 ≡ l.seams = omega arith in

@@ -42,7 +42,7 @@ marked-extended floor xs ys b =
 stack-extended-on : (over : Bool) (tape : TapeOf) (closed : LayersOf) (d d' : FillOf)
     (cycle end : ℕ) (pin : Option ℕ) (pinned : List ℕ) → 0 < length (base_on over closed.layers) →
     Below d.floor (current_list closed.layers) → d'.cells ≡ d.cells ++ current_list closed.layers →
-    d'.seams ≡ d.seams + current_seams closed.layers → d'.floor ≡ d.floor → d'.run ≡ d.run →
+    d'.seams ≡ d.seams + current_seams closed.layers → d'.floor ≡ d.floor → d'.streak ≡ d.streak →
     (held_by tape closed d' (Some (record { over = over; cycle = cycle; end = end })) pin
     pinned).stack ≡ extended
     (held_by tape closed d (Some (record { over = over; cycle = cycle; end = end })) pin

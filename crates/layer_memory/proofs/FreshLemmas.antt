@@ -12,7 +12,7 @@ use Rattle.looper_rules.specs.Saves.{pinned}
 use Rattle.loop_tape.specs.Tapes.{TapeOf}
 use Rattle.lazy_fill.specs.Fills.{FillOf, IsFill}
 use Rattle.lazy_fill.specs.Addresses.{Below, Without, Once}
-use Rattle.lazy_fill.specs.Runs.{with_address}
+use Rattle.lazy_fill.specs.Streaks.{with_address}
 use Rattle.undo_stack.specs.Layered.{LayersOf}
 use Rattle.layer_memory.specs.Kept.{LayerBelow, PinBelow, AtOnce, LayerWithout, PinWithout, Alone}
 use Rattle.lazy_fill.specs.Marks.{marked, marked_cell}

@@ -111,7 +111,7 @@ stack-begun tape tape' closed closed' d d' None t pin pinned n ps seams w lt o e
     let ec : d'.cells ≡ current_list closed.layers = rw (ed, ep, el) refl in
     let ef : d'.floor ≡ n = rw ed refl in
     let eq : d'.seams ≡ current_seams closed.layers = rw (ed, es, el) refl in
-    let er2 : d'.run ≡ None = rw ed refl in
+    let er2 : d'.streak ≡ None = rw ed refl in
     rw (el, er, ett, el, et, er2, copied n closed.layers d' lt b ec ef eq, en) refl
 
 -- the stack with an empty layer

@@ -7,7 +7,7 @@ use Rattle.std.specs.Prelude.{slice_set, slice_get}
 use Rattle.sl_commands.specs.declared.How.{How}
 use Rattle.sl_commands.specs.declared.How.TheVariants.{Forward, Backward, Insert, Append}
 use Rattle.looper_rules.specs.Layers.{Cell, Layer, contents, old_cell, old_cells, unmarked, fresh_cell, is_fresh, total_seams, current_end, current_seams, current_cycle, seams_of, current_cells, current_list, current_length, current_base_length, current_base_seams, with_current}
-use Rattle.looper_rules.specs.Stack.{Stack, Pin, pinned_tape, pinned_list, run_broken}
+use Rattle.looper_rules.specs.Stack.{Stack, Pin, pinned_tape, pinned_list, streak_broken}
 use Rattle.looper_rules.specs.Mapping.{cell_map, layer_map, pin_map, stack_map}
 use Rattle.looper_rules.specs.Opening.{opening, opened, opening_tape, new_layer}
 use Rattle.looper_rules.specs.Writing.{meets_fresh, new_cell_fits, write_fits, with_cell, with_written, newly_written, extended, extended_if, with_base, extension_fits}
@@ -121,7 +121,7 @@ current-written f how place more a (l ∷ ls) = rw (cell-mapped f how place a l.
 pub newly-mapped : {A B : Type 0} (f : A → B) (how : How) (place : ℕ) (a : A) (s : Stack A) →
     stack_map f (newly_written how place a s) ≡ newly_written how place (f a) (stack_map f s)
 newly-mapped f how place a s =
-    rw (current-written f how place (if is_some s.run then 0 else 2) a s.layers) refl
+    rw (current-written f how place (if is_some s.streak then 0 else 2) a s.layers) refl
 
 cut-mapped : {A B : Type 0} (f : A → B) (cut : Option ℕ) (cs : List (Cell A)) →
     map (cell_map f) (cut_cells cut cs) ≡ cut_cells cut (map (cell_map f) cs)
@@ -281,9 +281,9 @@ pub pinned_list-mapped : {A B : Type 0} (f : A → B) (p : Option (Pin A)) →
 pinned_list-mapped f None = refl
 pinned_list-mapped f (Some p) = refl
 
-pub run_broken-mapped : {A B : Type 0} (f : A → B) (s : Stack A) →
-    stack_map f (run_broken s) ≡ run_broken (stack_map f s)
-run_broken-mapped f s = refl
+pub streak_broken-mapped : {A B : Type 0} (f : A → B) (s : Stack A) →
+    stack_map f (streak_broken s) ≡ streak_broken (stack_map f s)
+streak_broken-mapped f s = refl
 
 -- contents that agree below a bound
 map-agrees : {A : Type 0} (f g : ℕ → A) (n : ℕ) (xs : List ℕ) → ((a : ℕ) → a < n → f a ≡ g a) →

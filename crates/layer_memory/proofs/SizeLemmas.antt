@@ -41,7 +41,7 @@ sizes-mapped f s z a = record {
   layers = rw (layers-mapped f s.layers) a.layers;
   redo = rw (layers-mapped f s.redo) a.redo;
   seams = rw (total-mapped f s.layers) a.seams;
-  run = a.run;
+  streak = a.streak;
 }
 
 pub ruleset sizes = (open-length, closed-length, closed-base, open-base)

@@ -7,14 +7,14 @@ use Rattle.sl_base.specs.Limits.{max_seams}
 use Rattle.sl_base.specs.Sounds.{Sound, silence}
 use Rattle.sl_commands.specs.declared.How.TheVariants.{Forward}
 use Rattle.looper_rules.specs.Layers.{Cell, Layer, current_cells, fresh_cell, total_seams, with_current}
-use Rattle.looper_rules.specs.Stack.{LastWrite, Stack, run_broken}
+use Rattle.looper_rules.specs.Stack.{LastWrite, Stack, streak_broken}
 use Rattle.looper_rules.specs.Mapping.{layer_map, stack_map}
 use Rattle.looper_rules.specs.Room.{has_room}
 use Rattle.looper_rules.specs.Writing.{meets_fresh, new_cell_fits, newly_written, rewritten, with_written, write_fits}
 use Rattle.loop_tape.specs.Pools.{PoolOf}
 use Rattle.loop_tape.specs.Tapes.{TapeOf, at, IsWhole, Owns as TapeOwns, PushedAll, AreSet}
 use Rattle.lazy_fill.specs.Fills.{FillOf, IsFill, fill_written, fill_written_span}
-use Rattle.lazy_fill.specs.Runs.{more_seams}
+use Rattle.lazy_fill.specs.Streaks.{more_seams}
 use Rattle.undo_stack.specs.Layered.{LayersOf}
 use Rattle.layer_memory.specs.Kept.{StackBelow, Alone}
 use Rattle.layer_memory.specs.Seen.{Held, seen, reach}
@@ -82,11 +82,11 @@ within-next n tape w =
 has-room : (reach tape : ℕ) → tape % 4096 ≢ 0 → has_room reach tape ≡ true
 has-room reach tape ne = grind (arith, ne)
 
-new-fits : {A : Type 0} (reach : ℕ) (s : Stack A) → s.tape % 4096 ≢ 0 → is_some s.run ≡ true →
+new-fits : {A : Type 0} (reach : ℕ) (s : Stack A) → s.tape % 4096 ≢ 0 → is_some s.streak ≡ true →
     new_cell_fits reach Forward s ≡ true
 new-fits reach s ne on = rw (has-room reach s.tape ne, on) refl
 
-pub new_fit : {A : Type 0} (xs : List A) (reach place : ℕ) (s : Stack A) → is_some s.run ≡ true →
+pub new_fit : {A : Type 0} (xs : List A) (reach place : ℕ) (s : Stack A) → is_some s.streak ≡ true →
     IsWithin (length xs) s.tape → AreMarked false (length xs) place s.layers →
     AllFit reach xs place s
 new_fit [] reach place s on w m = tt
@@ -134,17 +134,17 @@ more-none : (r : Option LastWrite) → is_some r ≡ true → more_seams r ≡ 0
 more-none r on = rw on refl
 
 held-span : (k tape : ℕ) (closed : LayersOf) (d : FillOf) (top : Option Top) (pin : Option ℕ)
-    (pinned : List ℕ) (place seams : ℕ) → IsTrue (is_some top) → is_some d.run ≡ true →
+    (pinned : List ℕ) (place seams : ℕ) → IsTrue (is_some top) → is_some d.streak ≡ true →
     Holds tape closed d top pin pinned seams →
     Holds (tape + k) closed (fill_written_span k place d) top pin pinned seams
 held-span zero tape closed d top pin pinned place seams w on h = let z : tape + 0 ≡ tape =
     omega arith in rw z h
 held-span (suc k) tape closed d None pin pinned place seams w on h = let no : ⊥ = cc in absurd no
 held-span (suc k) tape closed d (Some t) pin pinned place seams w on h =
-    let m = more-none d.run on in
-    let few : total_seams closed.layers + (d.seams + more_seams d.run) ≤ max_seams = let f =
+    let m = more-none d.streak on in
+    let few : total_seams closed.layers + (d.seams + more_seams d.streak) ≤ max_seams = let f =
     h.opened.few in rw m (omega (arith, f)) in
-    let same : seams ≡ seams + more_seams d.run = rw m (omega arith) in
+    let same : seams ≡ seams + more_seams d.streak = rw m (omega arith) in
     let one = held-pushed-in tape closed d (fill_written Forward place d) (Some t) pin pinned
     Forward place seams seams (tape + 1) w h few same refl refl in
     let y : tape + 1 + k ≡ tape + suc k = omega arith in
@@ -154,7 +154,7 @@ held-span (suc k) tape closed d (Some t) pin pinned place seams w on h =
 -- the stack behind them
 stack-span : (k : ℕ) (tape tape' : TapeOf) (closed : LayersOf) (d d' : FillOf) (top : Option Top)
     (pin : Option ℕ) (pinned : List ℕ) (place seams : ℕ) → IsTrue (is_some top) →
-    is_some d.run ≡ true → d.floor ≤ d.next → Holds tape.len closed d top pin pinned seams →
+    is_some d.streak ≡ true → d.floor ≤ d.next → Holds tape.len closed d top pin pinned seams →
     tape'.len ≡ tape.len + k → d' ≡ fill_written_span k place d →
     (held_by tape' closed d' top pin pinned).stack ≡ newly_written_span k place tape.len
     (held_by tape closed d top pin pinned).stack
@@ -174,26 +174,26 @@ stack-span (suc k) tape tape' closed d d' top pin pinned place seams w on le h n
 
 pub held-span-in : (k tape n : ℕ) (closed : LayersOf) (d d' : FillOf) (top : Option Top)
     (pin : Option ℕ) (pinned : List ℕ) (place seams : ℕ) → IsTrue (is_some top) →
-    IsTrue (is_some d.run) → Holds tape closed d top pin pinned seams → n ≡ tape + k →
+    IsTrue (is_some d.streak) → Holds tape closed d top pin pinned seams → n ≡ tape + k →
     d' ≡ fill_written_span k place d → Holds n closed d' top pin pinned seams
 held-span-in k tape n closed d d' top pin pinned place seams w on h en ed =
-    rw (en, ed) (held-span k tape closed d top pin pinned place seams w (is-true (is_some d.run) on)
+    rw (en, ed) (held-span k tape closed d top pin pinned place seams w (is-true (is_some d.streak) on)
     h)
 
 pub stack-span-in : (k : ℕ) (tape tape' : TapeOf) (closed : LayersOf) (d d' : FillOf)
     (top : Option Top) (pin : Option ℕ) (pinned : List ℕ) (place seams : ℕ) → IsTrue (is_some top) →
-    IsTrue (is_some d.run) → d.floor ≤ d.next → Holds tape.len closed d top pin pinned seams →
+    IsTrue (is_some d.streak) → d.floor ≤ d.next → Holds tape.len closed d top pin pinned seams →
     tape'.len ≡ tape.len + k → d' ≡ fill_written_span k place d →
     (held_by tape' closed d' top pin pinned).stack ≡ newly_written_span k place tape.len
     (held_by tape closed d top pin pinned).stack
 stack-span-in k tape tape' closed d d' top pin pinned place seams w on le h n e =
-    stack-span k tape tape' closed d d' top pin pinned place seams w (is-true (is_some d.run) on) le
+    stack-span k tape tape' closed d d' top pin pinned place seams w (is-true (is_some d.streak) on) le
     h n e
 
 -- new cells in a row
 pub pushes-span : (h h' : Held) (p p' : PoolOf) (place : ℕ) (xs : List Sound) →
     h'.stack ≡ newly_written_span (length xs) place h.tape.len h.stack → h'.writing ≡ true →
-    AreMarked false (length xs) place h.stack.layers → IsTrue (is_some h.stack.run) →
+    AreMarked false (length xs) place h.stack.layers → IsTrue (is_some h.stack.streak) →
     h.stack.tape ≡ h.tape.len → h.tape.len % 4096 ≢ 0 → h.tape.len % 4096 + length xs ≤ 4096 →
     StackBelow h.tape.len h.stack → IsWhole h'.tape → PushedAll h.tape h'.tape p p' xs →
     WritesSpan xs place h h' p p'
@@ -206,7 +206,7 @@ pushes-span h h' p p' place xs e w m on et begun within b whole c =
     let chunk : IsWithin (length xs) (seen h p).tape =
     rw et (record { begun = λ some. begun; within = within }) in
     record {
-      fits = new_fit xs (reach h p) place (seen h p) (is-true (is_some h.stack.run) on) chunk
+      fits = new_fit xs (reach h p) place (seen h p) (is-true (is_some h.stack.streak) on) chunk
           marked;
       seen = trans (ap (λ s. stack_map f s) e)
           (trans (newly-seen xs f place h.tape.len h.stack c.new)
@@ -293,16 +293,16 @@ none-overwritten false n a b g f e o lt =
 over-seen : (xs : List Sound) (g f : ℕ → Sound) (n place a : ℕ) (s : Stack ℕ) → StackBelow n s →
     AreAlone (length xs) place a s → AreMarked true (length xs) place s.layers →
     AreOverwritten n a xs g f →
-    stack_map g (run_broken s) ≡ written_span xs place (stack_map f (run_broken s))
+    stack_map g (streak_broken s) ≡ written_span xs place (stack_map f (streak_broken s))
 over-seen [] g f n place a s b al m o =
-    stack-agrees g f n (run_broken s) (λ i lt. none-overwritten (nat_lt i a) n a i g f refl o lt)
+    stack-agrees g f n (streak_broken s) (λ i lt. none-overwritten (nat_lt i a) n a i g f refl o lt)
     (record { layers = b.layers; redo = b.redo; pin = b.pin })
 over-seen (x ∷ xs) g f n place a s b al m o =
     let f1 : ℕ → Sound = changed_at a x f in
     let zp : place + 0 ≡ place = omega arith in
     let za : a + 0 ≡ a = omega arith in
     let here : Alone place a s = rw (zp, za) at (al 0 (omega arith)) in
-    let first : stack_map f1 (run_broken s) ≡ rewritten Forward place x (stack_map f s) =
+    let first : stack_map f1 (streak_broken s) ≡ rewritten Forward place x (stack_map f s) =
     stack-rewritten f1 f Forward n place a x s.layers s refl refl
     (λ i lt ne. changed-elsewhere a i x f ne) (changed-there a x f) b.layers b.redo b.pin
     here.layers here.redo here.pin in
@@ -312,19 +312,19 @@ over-seen (x ∷ xs) g f n place a s b al m o =
     (λ k lt. let yp : place + 1 + k ≡ place + suc k = omega arith in
     rw yp (m (suc k) (omega (arith, lt))))
     (overwritten-next n a x xs g f o) in
-    let fresh : meets_fresh Forward place (stack_map f (run_broken s)) ≡ true =
-    trans (fresh-mapped f Forward place (run_broken s))
-    (marked-first true (length xs) place (run_broken s) m) in
+    let fresh : meets_fresh Forward place (stack_map f (streak_broken s)) ≡ true =
+    trans (fresh-mapped f Forward place (streak_broken s))
+    (marked-first true (length xs) place (streak_broken s) m) in
     trans rest (trans (ap (λ t. written_span xs (place + 1) t) first) (rw fresh refl))
 
 broken-same : {A : Type 0} (x : A) (xs : List A) (place : ℕ) (s : Stack A) →
     meets_fresh Forward place s ≡ true →
-    written_span (x ∷ xs) place (run_broken s) ≡ written_span (x ∷ xs) place s
+    written_span (x ∷ xs) place (streak_broken s) ≡ written_span (x ∷ xs) place s
 broken-same x xs place s e = rw e refl
 
 over-all : (xs : List Sound) (f g : ℕ → Sound) (n place a : ℕ) (s : Stack ℕ) → 1 ≤ length xs →
     StackBelow n s → AreAlone (length xs) place a s → AreMarked true (length xs) place s.layers →
-    AreOverwritten n a xs g f → stack_map g (run_broken s) ≡ written_span xs place (stack_map f s)
+    AreOverwritten n a xs g f → stack_map g (streak_broken s) ≡ written_span xs place (stack_map f s)
 over-all [] f g n place a s some b al m o = absurd (omega (arith, some))
 over-all (x ∷ xs) f g n place a s some b al m o =
     let fresh : meets_fresh Forward place (stack_map f s) ≡ true =
@@ -333,7 +333,7 @@ over-all (x ∷ xs) f g n place a s some b al m o =
     (broken-same x xs place (stack_map f s) fresh)
 
 pub rewrites-span : (h h' : Held) (p p' : PoolOf) (place a : ℕ) (xs : List Sound) →
-    h'.stack ≡ run_broken h.stack → h'.tape ≡ h.tape → h'.writing ≡ true → 1 ≤ length xs →
+    h'.stack ≡ streak_broken h.stack → h'.tape ≡ h.tape → h'.writing ≡ true → 1 ≤ length xs →
     AreMarked true (length xs) place h.stack.layers → StackBelow h.tape.len h.stack →
     AreAlone (length xs) place a h.stack → AreSet h.tape h.tape p p' a xs → IsWhole h.tape →
     WritesSpan xs place h h' p p'
@@ -399,7 +399,7 @@ take-first (x ∷ xs) (suc a) (suc b) le = ap (λ t. x ∷ t) (take-first xs a b
 
 pub pushes-row : (k : ℕ) (h h' : Held) (p p' : PoolOf) (place most old : ℕ) (xs : List Sound) →
     k ≤ most → most ≤ length xs → most ≤ old → IsTrue h.writing → TapeOwns h.tape p →
-    IsWhole h.tape → (k ≡ 0 → (h' ≡ h) × (p' ≡ p)) → (1 ≤ k → IsTrue (is_some h.stack.run)) →
+    IsWhole h.tape → (k ≡ 0 → (h' ≡ h) × (p' ≡ p)) → (1 ≤ k → IsTrue (is_some h.stack.streak)) →
     (1 ≤ k → h'.stack ≡ newly_written_span k place h.tape.len h.stack) → h'.writing ≡ true →
     (1 ≤ k → PushedAll h.tape h'.tape p p' (take k (take most xs))) → IsWhole h'.tape →
     AreMarked false old place h.stack.layers → h.stack.tape ≡ h.tape.len → h.tape.len % 4096 ≢ 0 →

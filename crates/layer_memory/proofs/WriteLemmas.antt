@@ -5,14 +5,14 @@ use Rattle.sl_base.specs.Limits.{max_seams}
 use Rattle.sl_base.specs.Sounds.{Sound}
 use Rattle.sl_commands.specs.declared.How.{How}
 use Rattle.looper_rules.specs.Layers.{Layer, total_seams, current_end, seams_of}
-use Rattle.looper_rules.specs.Stack.{Stack, Pin, run_broken}
+use Rattle.looper_rules.specs.Stack.{Stack, Pin, streak_broken}
 use Rattle.looper_rules.specs.Mapping.{stack_map}
 use Rattle.looper_rules.specs.Writing.{overwrites, meets_fresh, new_cell_fits, rewritten, newly_written, written}
 use Rattle.looper_rules.specs.Saves.{pinned}
 use Rattle.loop_tape.specs.Pools.{PoolOf}
 use Rattle.loop_tape.specs.Tapes.{TapeOf, at, IsWhole, Pushed, IsSet}
 use Rattle.lazy_fill.specs.Fills.{FillOf, fill_written}
-use Rattle.lazy_fill.specs.Runs.{more_seams}
+use Rattle.lazy_fill.specs.Streaks.{more_seams}
 use Rattle.undo_stack.specs.Layered.{LayersOf}
 use Rattle.layer_memory.specs.Kept.{StackBelow, GoesOn, PinWithin, Alone}
 use Rattle.layer_memory.specs.Seen.{Held, seen, reach}
@@ -77,7 +77,7 @@ refuses h h' p p' how place eh ep m fit = record {
 
 -- over a fresh cell
 pub rewrites : (h h' : Held) (p p' : PoolOf) (how : How) (place a : ℕ) (x : Sound) →
-    h'.stack ≡ run_broken h.stack → h'.tape ≡ h.tape → h'.writing ≡ true → overwrites how ≡ true →
+    h'.stack ≡ streak_broken h.stack → h'.tape ≡ h.tape → h'.writing ≡ true → overwrites how ≡ true →
     meets_fresh how place h.stack ≡ true → StackBelow h.tape.len h.stack → Alone place a h.stack →
     ((b : ℕ) → b < h.tape.len → b ≢ a → at h'.tape p' b ≡ at h.tape p b) → at h'.tape p' a ≡ x →
     Keeps h h' p p' → Writes how place x h h' p p'
@@ -104,8 +104,8 @@ goes-more m n end (l ∷ ls) le g = (g.0, (g.1.0, goes-more m n l.end ls le g.1.
 pub held-pushed : (tape : ℕ) (closed : LayersOf) (d : FillOf) (t : Top) (pin : Option ℕ)
     (pinned : List ℕ) (how : How) (place seams seams' : ℕ) →
     Holds tape closed d (Some t) pin pinned seams →
-    total_seams closed.layers + (d.seams + more_seams d.run) ≤ max_seams →
-    seams' ≡ seams + more_seams d.run →
+    total_seams closed.layers + (d.seams + more_seams d.streak) ≤ max_seams →
+    seams' ≡ seams + more_seams d.streak →
     Holds (tape + 1) closed (fill_written how place d) (Some t) pin pinned seams'
 held-pushed tape closed d t pin pinned how place seams seams' h few es = record {
   ordered = h.ordered;
@@ -139,8 +139,8 @@ stack-pushed tape tape' closed d d' (Some t) pin pinned how place w le m n e =
 pub held-pushed-in : (tape : ℕ) (closed : LayersOf) (d d' : FillOf) (top : Option Top)
     (pin : Option ℕ) (pinned : List ℕ) (how : How) (place seams seams' n : ℕ) →
     IsTrue (is_some top) → Holds tape closed d top pin pinned seams →
-    total_seams closed.layers + (d.seams + more_seams d.run) ≤ max_seams →
-    seams' ≡ seams + more_seams d.run → n ≡ tape + 1 → d' ≡ fill_written how place d →
+    total_seams closed.layers + (d.seams + more_seams d.streak) ≤ max_seams →
+    seams' ≡ seams + more_seams d.streak → n ≡ tape + 1 → d' ≡ fill_written how place d →
     Holds n closed d' top pin pinned seams'
 held-pushed-in tape closed d d' None pin pinned how place seams seams' n w h few es en ed =
     grind (arith, w)

@@ -1,7 +1,7 @@
 -- What the calls of layers answer and leave.
 -- A refusal changes nothing. Else the stack of frames is that of the rules, the tape stays the
 -- layers' own, what they reach stays as it was, and so do all other tapes of the pool.
--- "Opening", "Writing" and "The run" in docs/rules.md.
+-- "Opening", "Writing" and "The streak" in docs/rules.md.
 use Rattle.std.specs.Prelude.{◌≡◌, ◌≤◌, ◌<◌, ℕ, ◌+◌, ⊤, Bool, true, false, List, length}
 use Rattle.std.specs.List.{range_with_len}
 use Rattle.sl_base.specs.Limits.{max_layers, max_seams}

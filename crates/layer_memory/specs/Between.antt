@@ -1,11 +1,11 @@
 -- What may happen to a stack between two calls: openings, writes, extensions, closings, removals,
--- undo and redo, and the end of a run. Between an opening and its closing a list may also be pinned
+-- undo and redo, and the end of a streak. Between an opening and its closing a list may also be pinned
 -- and released.
 -- "Writing", "History: undo and redo" and "The stack" in docs/rules.md.
 use Rattle.std.specs.Prelude.{ℕ, Bool, Option}
 use Rattle.sl_base.specs.Sounds.{Sound}
 use Rattle.sl_commands.specs.declared.How.{How}
-use Rattle.looper_rules.specs.Stack.{Stack, run_broken}
+use Rattle.looper_rules.specs.Stack.{Stack, streak_broken}
 use Rattle.looper_rules.specs.Opening.{opened}
 use Rattle.looper_rules.specs.Writing.{written, extended}
 use Rattle.looper_rules.specs.Closing.{finished, dropped}
@@ -18,7 +18,7 @@ pub data AreWrites (s : Stack Sound) : Stack Sound → Type 0 where
   wrote : (how : How) → (place : ℕ) → (x : Sound) → (t : Stack Sound) → AreWrites s t →
       AreWrites s (written how place x t)
   went_on : (t : Stack Sound) → AreWrites s t → AreWrites s (extended t)
-  broke : (t : Stack Sound) → AreWrites s t → AreWrites s (run_broken t)
+  broke : (t : Stack Sound) → AreWrites s t → AreWrites s (streak_broken t)
   held : (t : Stack Sound) → AreWrites s t → AreWrites s (pinned t)
   let_go : (t : Stack Sound) → AreWrites s t → AreWrites s (unpinned t)
 
@@ -29,7 +29,7 @@ pub data AreChanges (s : Stack Sound) : Stack Sound → Type 0 where
   writes : (how : How) → (place : ℕ) → (x : Sound) → (t : Stack Sound) → AreChanges s t →
       AreChanges s (written how place x t)
   extends : (t : Stack Sound) → AreChanges s t → AreChanges s (extended t)
-  breaks : (t : Stack Sound) → AreChanges s t → AreChanges s (run_broken t)
+  breaks : (t : Stack Sound) → AreChanges s t → AreChanges s (streak_broken t)
   finishes : (cut : Option ℕ) → (t : Stack Sound) → AreChanges s t → AreChanges s (finished cut t)
   drops : (t : Stack Sound) → AreChanges s t → AreChanges s (dropped t)
   undoes : (t : Stack Sound) → AreChanges s t → AreChanges s (undone t)

@@ -43,10 +43,10 @@ abbrev pub stacked : Option Top → FillOf → List (Layer ℕ) → List (Layer 
 stacked None f closed = closed
 stacked (Some t) f closed = open_layer t f closed ∷ closed
 
--- the run of the open layer
-abbrev pub run_on : Option Top → FillOf → Option LastWrite
-run_on None f = None
-run_on (Some t) f = f.run
+-- the streak of the open layer
+abbrev pub streak_on : Option Top → FillOf → Option LastWrite
+streak_on None f = None
+streak_on (Some t) f = f.streak
 
 -- the pin with its list
 abbrev pub pin_of : Option ℕ → List ℕ → Option (Pin ℕ)
@@ -62,7 +62,7 @@ held_by tape closed f top pin pinned =
         redo = closed.redo;
         tape = tape.len;
         pin = pin_of pin pinned;
-        run = run_on top f;
+        streak = streak_on top f;
       };
       writing = is_some top;
       tape = tape;

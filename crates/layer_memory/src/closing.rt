@@ -2,7 +2,7 @@
 
 ghost use Rattle.std.specs.Prelude.{◌≡◌, ◌≤◌, ◌<◌, true, false, IsTrue, IfSome};
 ghost use Rattle.looper_rules.specs.Layers.{current_length, current_base_length};
-ghost use Rattle.looper_rules.specs.Stack.{run_broken};
+ghost use Rattle.looper_rules.specs.Stack.{streak_broken};
 ghost use Rattle.looper_rules.specs.Writing.{extension_fits, extended_if};
 ghost use Rattle.looper_rules.specs.Closing.{finished, closing_cycle, dropped};
 ghost use Rattle.loop_tape.specs.Pools.{PoolOf};
@@ -105,14 +105,14 @@ impl Layers {
         self.add_base()
     }
 
-    /// Ends the run: the next write begins another. A layer has to be open.
-    pub fn break_run(&mut self)
+    /// Ends the streak: the next write begins another. A layer has to be open.
+    pub fn break_streak(&mut self)
         requires writing { IsTrue self.old.writing }
-        ensures stack { self.new.stack ≡ run_broken self.old.stack }
-        ensures seen { (p : PoolOf) → seen self.new p ≡ run_broken (seen self.old p) }
+        ensures stack { self.new.stack ≡ streak_broken self.old.stack }
+        ensures seen { (p : PoolOf) → seen self.new p ≡ streak_broken (seen self.old p) }
         ensures writing { self.new.writing ≡ true }
         ensures tape { self.new.tape ≡ self.old.tape }
     {
-        self.fill.break_run();
+        self.fill.break_streak();
     }
 }

@@ -166,7 +166,7 @@ impl Layers {
                 layers,
                 redo,
                 seams: self.seams,
-                run: false,
+                streak: false,
             },
             Some(top) => Sizes {
                 length: self.fill.len(),
@@ -175,7 +175,7 @@ impl Layers {
                 layers: layers + 1,
                 redo,
                 seams: self.seams,
-                run: self.fill.runs(),
+                streak: self.fill.has_streak(),
             },
         }
     }

@@ -4,7 +4,7 @@ ghost use Rattle.std.specs.Prelude.{◌≡◌, ◌≢◌, ℕ, ◌≤◌, ◌<�
 ghost use Rattle.sl_base.specs.Limits.{chunk_frames};
 ghost use Rattle.sl_commands.specs.declared.How.TheVariants.{Forward};
 ghost use Rattle.looper_rules.specs.Layers.{current_length};
-ghost use Rattle.looper_rules.specs.Stack.{run_broken};
+ghost use Rattle.looper_rules.specs.Stack.{streak_broken};
 ghost use Rattle.looper_rules.specs.WritePlaces.{Follows};
 ghost use Rattle.loop_tape.specs.Tapes.{AreSet, IsWhole, Owns, PushedAll};
 ghost use Rattle.layer_memory.specs.Spans.{AreAlone, AreMarked, WritesSpan, newly_written_span};
@@ -60,29 +60,29 @@ impl Layers {
         requires some { 1 ≤ length frames.now }
         requires below { address + length frames.now ≤ self.old.tape.len }
         requires within { address % chunk_frames + length frames.now ≤ chunk_frames }
-        ensures stack { self.new.stack ≡ run_broken self.old.stack }
+        ensures stack { self.new.stack ≡ streak_broken self.old.stack }
         ensures writing { self.new.writing ≡ true }
         ensures tape { self.new.tape ≡ self.old.tape }
         ensures set { AreSet self.old.tape self.old.tape pool.old pool.new address frames.now }
     {
         self.tape.check();
         self.tape.set_frames(pool, address, frames);
-        self.fill.break_run();
+        self.fill.break_streak();
     }
 
     /// Writes new cells in a row, within the last chunk of the tape, as many as one piece takes in
-    /// a run that goes on. How many.
+    /// a streak that goes on. How many.
     #[tactic(auto, using(crate::proofs::SpanWriteLemmas::rows))]
     fn push_row(&mut self, pool: &mut Pool, place: u32, frames: &[Frame]) -> u32
         requires writing { IsTrue self.old.writing }
         requires owns { Owns self.old.tape pool.old }
         requires place { place + length frames.now ≤ current_length self.old.stack.layers }
-        requires follows { Follows self.old.stack.run Forward place }
+        requires follows { Follows self.old.stack.streak Forward place }
         requires begun { self.old.tape.len % chunk_frames ≢ 0 }
         requires within { self.old.tape.len % chunk_frames + length frames.now ≤ chunk_frames }
         ensures within { result ≤ length frames.now }
         ensures none { result ≡ 0 → (self.new ≡ self.old) × (pool.new ≡ pool.old) }
-        ensures runs { 1 ≤ result → IsTrue (is_some self.old.stack.run) }
+        ensures streak { 1 ≤ result → IsTrue (is_some self.old.stack.streak) }
         ensures stack { 1 ≤ result →
             self.new.stack ≡ newly_written_span result place self.old.tape.len self.old.stack }
         ensures writing { self.new.writing ≡ true }
@@ -124,14 +124,14 @@ impl Layers {
     }
 
     /// Writes new cells in a row over others, from the first of these frames on, as many as one
-    /// piece and one chunk take in a run that goes on. How many.
+    /// piece and one chunk take in a streak that goes on. How many.
     #[tactic(auto, using(crate::proofs::SpanWriteLemmas::none, crate::proofs::SpanWriteLemmas::answers))]
     fn write_old(&mut self, pool: &mut Pool, place: u32, frames: &[Frame]) -> usize
         requires writing { IsTrue self.old.writing }
         requires owns { Owns self.old.tape pool.old }
         requires some { 1 ≤ length frames.now }
         requires place { place + length frames.now ≤ current_length self.old.stack.layers }
-        requires follows { Follows self.old.stack.run Forward place }
+        requires follows { Follows self.old.stack.streak Forward place }
         ensures within { result ≤ length frames.now }
         ensures writes { WritesSpan (take result frames.now) place self.old self.new pool.old
             pool.new }
@@ -147,13 +147,13 @@ impl Layers {
 
     /// Writes frames in a row, each over the cell at its place, from the first of them on: as many
     /// as can be written at once, and none where the first is to be written alone. How many. A
-    /// layer has to be open, and where a run goes on they have to go on with it.
+    /// layer has to be open, and where a streak goes on they have to go on with it.
     pub fn write_span(&mut self, pool: &mut Pool, place: u32, frames: &[Frame]) -> usize
         requires writing { IsTrue self.old.writing }
         requires owns { Owns self.old.tape pool.old }
         requires some { 1 ≤ length frames.now }
         requires place { place + length frames.now ≤ current_length self.old.stack.layers }
-        requires follows { Follows self.old.stack.run Forward place }
+        requires follows { Follows self.old.stack.streak Forward place }
         ensures within { result ≤ length frames.now }
         ensures writes { WritesSpan (take result frames.now) place self.old self.new pool.old
             pool.new }
@@ -176,7 +176,7 @@ impl Layers {
             let (address, fresh) = self.fresh_ahead(place, count);
             return fresh.min(CHUNK_FRAMES - address % CHUNK_FRAMES);
         }
-        if !self.fill.runs() {
+        if !self.fill.has_streak() {
             return 0;
         }
         self.fill.old_cells(place, count).min(self.tape.rest())

@@ -15,6 +15,6 @@ pub struct Sizes {
     pub redo: u32,
     /// The seams of all layers, without those of redo layers.
     pub seams: u32,
-    /// Whether a run goes on.
-    pub run: bool,
+    /// Whether a streak goes on.
+    pub streak: bool,
 }

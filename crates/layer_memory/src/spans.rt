@@ -7,7 +7,7 @@ ghost use Rattle.loop_tape.specs.Tapes.{Owns, at};
 ghost use Rattle.lazy_fill.specs.Addresses.{Below};
 
 use loop_tape::{Pool, Tape};
-use pieces::{Hint, Piece, find_from, run_from};
+use pieces::{Hint, Piece, find_from, piece_from};
 use sl_base::Frame;
 
 /// Copies the frames at the addresses of one piece, as many as `out` has.
@@ -49,9 +49,9 @@ pub(crate) fn read_pieces(
     while done < out.len() {
         let from = place + done as u32;
         found = find_from(list, found, from);
-        let run = run_from(list, found, from, (out.len() - done) as u32);
-        let count = run.len as usize;
-        read_piece(tape, pool, run, &mut out[done..done + count]);
+        let piece = piece_from(list, found, from, (out.len() - done) as u32);
+        let count = piece.len as usize;
+        read_piece(tape, pool, piece, &mut out[done..done + count]);
         done += count;
     }
 }

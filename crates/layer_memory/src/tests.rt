@@ -38,7 +38,7 @@ fn append(layers: &mut Layers, pool: &mut Pool, numbers: &[u16]) -> bool
 {
     let mut all = true;
     for i in 0..numbers.len() {
-        layers.break_run();
+        layers.break_streak();
         let place = layers.sizes().length;
         if !layers.write(pool, place, frame(numbers[i]), How::Append) {
             all = false;
@@ -58,7 +58,7 @@ fn insert(layers: &mut Layers, pool: &mut Pool, from: u32, numbers: &[u16]) -> b
     let mut place = from;
     let mut all = true;
     for i in 0..numbers.len() {
-        layers.break_run();
+        layers.break_streak();
         if place >= layers.sizes().length
             || !layers.write(pool, place, frame(numbers[i]), How::Insert)
         {
@@ -77,7 +77,7 @@ fn add(layers: &mut Layers, pool: &mut Pool, place: u32, number: i32) -> bool
     ensures writing { IsTrue layers.new.writing }
     ensures owns { Owns layers.new.tape pool.new }
 {
-    layers.break_run();
+    layers.break_streak();
     if place >= layers.sizes().length {
         return false;
     }

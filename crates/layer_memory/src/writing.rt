@@ -3,12 +3,12 @@
 ghost use Rattle.std.specs.Prelude.{◌≡◌, ◌≢◌, ℕ, ◌≤◌, ◌<◌, ◌+◌, ◌-◌, length, true, false, IsTrue, IsFalse, IfSome, is_some, slice_get, nat_le, nat_lt, ◌&&◌, ◌||◌, if◌then◌else◌};
 ghost use Rattle.sl_base.specs.Limits.{max_list_frames, max_seams};
 ghost use Rattle.looper_rules.specs.Layers.{total_seams, current_length, current_cells, is_fresh};
-ghost use Rattle.looper_rules.specs.Stack.{run_broken};
+ghost use Rattle.looper_rules.specs.Stack.{streak_broken};
 ghost use Rattle.looper_rules.specs.Room.{has_room};
 ghost use Rattle.looper_rules.specs.Writing.{overwrites, meets_fresh, newly_written};
 ghost use Rattle.looper_rules.specs.WritePlaces.{IsPlace, Follows};
 ghost use Rattle.loop_tape.specs.Tapes.{Owns, Pushed, IsWhole, at};
-ghost use Rattle.lazy_fill.specs.Runs.{IsShort};
+ghost use Rattle.lazy_fill.specs.Streaks.{IsShort};
 ghost use Rattle.layer_memory.specs.Seen.{reach};
 ghost use Rattle.layer_memory.specs.Kept.{Alone};
 ghost use Rattle.layer_memory.specs.Answers.{Keeps, Written};
@@ -44,7 +44,7 @@ impl Layers {
         requires writing { IsTrue self.old.writing }
         requires owns { Owns self.old.tape pool.old }
         requires within { address < self.old.tape.len }
-        ensures stack { self.new.stack ≡ run_broken self.old.stack }
+        ensures stack { self.new.stack ≡ streak_broken self.old.stack }
         ensures writing { self.new.writing ≡ true }
         ensures tape { self.new.tape ≡ self.old.tape }
         ensures there { at self.new.tape pool.new address ≡ frame }
@@ -54,7 +54,7 @@ impl Layers {
     {
         self.tape.check();
         self.tape.set(pool, address, frame);
-        self.fill.break_run();
+        self.fill.break_streak();
     }
 
     /// Whether seams and length let a new cell be written.
@@ -62,14 +62,14 @@ impl Layers {
         requires { IsTrue self.now.writing }
         ensures short { IsTrue result → IsShort how (current_length self.now.stack.layers) }
         ensures value { result
-            ≡ ((is_some self.now.stack.run
+            ≡ ((is_some self.now.stack.streak
             || nat_le (total_seams self.now.stack.layers) (max_seams - 2))
             && (overwrites how || nat_lt (current_length self.now.stack.layers) max_list_frames)) }
         ensures seams { IsTrue result → total_seams self.now.stack.layers
-            + (if is_some self.now.stack.run then 0 else 2) ≤ max_seams }
+            + (if is_some self.now.stack.streak then 0 else 2) ≤ max_seams }
     {
         self.fill.check();
-        if !self.fill.runs() && self.seams > MAX_SEAMS - 2 {
+        if !self.fill.has_streak() && self.seams > MAX_SEAMS - 2 {
             return false;
         }
         match how {
@@ -86,10 +86,10 @@ impl Layers {
         requires writing { IsTrue self.old.writing }
         requires owns { Owns self.old.tape pool.old }
         requires place { IsPlace how place (current_length self.old.stack.layers) }
-        requires follows { Follows self.old.stack.run how place }
+        requires follows { Follows self.old.stack.streak how place }
         requires short { IsShort how (current_length self.old.stack.layers) }
         requires seams { total_seams self.old.stack.layers
-            + (if is_some self.old.stack.run then 0 else 2) ≤ max_seams }
+            + (if is_some self.old.stack.streak then 0 else 2) ≤ max_seams }
         ensures room { result ≡ has_room (reach self.old pool.old) self.old.stack.tape }
         ensures full { IsFalse result → (self.new ≡ self.old) × (pool.new ≡ pool.old) }
         ensures stack { IsTrue result →
@@ -117,7 +117,7 @@ impl Layers {
         requires writing { IsTrue self.old.writing }
         requires owns { Owns self.old.tape pool.old }
         requires place { IsPlace how place (current_length self.old.stack.layers) }
-        requires follows { Follows self.old.stack.run how place }
+        requires follows { Follows self.old.stack.streak how place }
         requires stale { meets_fresh how place self.old.stack ≡ false }
         ensures { Written how place frame self.old self.new pool.old pool.new result }
     {
@@ -135,7 +135,7 @@ impl Layers {
         requires owns { Owns self.old.tape pool.old }
         requires over { overwrites how ≡ true }
         requires place { place < current_length self.old.stack.layers }
-        requires follows { Follows self.old.stack.run how place }
+        requires follows { Follows self.old.stack.streak how place }
         ensures { Written how place frame self.old self.new pool.old pool.new result }
     {
         self.check();
@@ -149,13 +149,13 @@ impl Layers {
     }
 
     /// Writes a frame in this manner, over the cell at a place, before it, or at the end. A layer
-    /// has to be open, and where a run goes on the write has to go on with it. False where it
+    /// has to be open, and where a streak goes on the write has to go on with it. False where it
     /// doesn't fit, and then nothing changes.
     pub fn write(&mut self, pool: &mut Pool, place: u32, frame: Frame, how: How) -> bool
         requires writing { IsTrue self.old.writing }
         requires owns { Owns self.old.tape pool.old }
         requires place { IsPlace how place (current_length self.old.stack.layers) }
-        requires follows { Follows self.old.stack.run how place }
+        requires follows { Follows self.old.stack.streak how place }
         ensures { Written how place frame self.old self.new pool.old pool.new result }
     {
         match how {

@@ -12,11 +12,11 @@ use Rattle.looper_rules.specs.WritePlaces.{Follows, IsPlace}
 use Rattle.looper_rules.specs.Writing.{with_cell}
 use Rattle.pieces.specs.Pieces.{Piece, Solid, addresses, total}
 use Rattle.pieces.proofs.AddressLemmas.{length-addresses, addresses-append, addresses-before}
-use Rattle.pieces.proofs.OneMoreLemmas.{overwritten-length, overwritten-length-runs, inserted-length, inserted-length-runs, joined-length, joined-length-runs, runs-extended, overwritten-solid, inserted-solid, joined-solid, solid-append, solid-before, before-few}
-use Rattle.pieces.proofs.BackwardLemmas.{down-length, down-length-runs, down-extended, overwritten-down-solid}
+use Rattle.pieces.proofs.OneMoreLemmas.{overwritten-length, overwritten-length-continues, inserted-length, inserted-length-continues, joined-length, joined-length-continues, continues-extended, overwritten-solid, inserted-solid, joined-solid, solid-append, solid-before, before-few}
+use Rattle.pieces.proofs.BackwardLemmas.{down-length, down-length-continues, down-extended, overwritten-down-solid}
 use Rattle.lazy_fill.specs.Addresses.{Below, Without, Once}
 use Rattle.lazy_fill.specs.Marks.{marked, marked_cell}
-use Rattle.lazy_fill.specs.Runs.{with_address, more_seams, IsShort, IsRunning, IsRunOn, MeetsPiece, pieces_written}
+use Rattle.lazy_fill.specs.Streaks.{with_address, more_seams, IsShort, HasStreak, IsStreakOn, MeetsPiece, pieces_written}
 use Rattle.lazy_fill.specs.Fills.{FillOf, IsFill, fill_written, fill_cut, fill_extended}
 
 pub below-more : (m n : ℕ) (xs : List ℕ) → m ≤ n → Below m xs → Below n xs
@@ -118,23 +118,23 @@ new-length Insert place next ps = inserted-length place next ps
 new-length Append place next ps = let h = joined-length next ps in grind (arith, h)
 
 on-length : (how : How) (last place next : ℕ) (ps : List Piece) →
-    IsPlace how place (length (addresses ps)) → IsBehind how last place → IsRunOn how last next ps →
+    IsPlace how place (length (addresses ps)) → IsBehind how last place → IsStreakOn how last next ps →
     length (pieces_written how place next ps) ≤ length ps
 on-length Forward last place next ps pl b r =
-    overwritten-length-runs place next ps (rw (sym b) at r)
+    overwritten-length-continues place next ps (rw (sym b) at r)
 on-length Backward last place next ps pl b r =
-    down-length-runs place next ps (let n = length-addresses ps in omega (arith, pl, n)) (rw b at r)
-on-length Insert last place next ps pl b r = inserted-length-runs place next ps (rw (sym b) at r)
-on-length Append last place next ps pl b r = joined-length-runs place next ps pl (rw (sym b) at r)
+    down-length-continues place next ps (let n = length-addresses ps in omega (arith, pl, n)) (rw b at r)
+on-length Insert last place next ps pl b r = inserted-length-continues place next ps (rw (sym b) at r)
+on-length Append last place next ps pl b r = joined-length-continues place next ps pl (rw (sym b) at r)
 
-pub written-length : (run : Option LastWrite) (how : How) (place next : ℕ) (ps : List Piece) →
-    IsPlace how place (length (addresses ps)) → Follows run how place → IsRunning run next ps →
-    length (pieces_written how place next ps) ≤ length ps + more_seams run
+pub written-length : (streak : Option LastWrite) (how : How) (place next : ℕ) (ps : List Piece) →
+    IsPlace how place (length (addresses ps)) → Follows streak how place → HasStreak streak next ps →
+    length (pieces_written how place next ps) ≤ length ps + more_seams streak
 written-length None how place next ps pl f r = new-length how place next ps
 written-length (Some last) how place next ps pl f r =
     let e : last.how ≡ how = f.0 in
     let b : IsBehind how last.place place = f.1 in
-    let s : IsRunOn how last.place next ps = subst (λ h. IsRunOn h last.place next ps) e r in
+    let s : IsStreakOn how last.place next ps = subst (λ h. IsStreakOn h last.place next ps) e r in
     let h = on-length how last.place place next ps pl b s in omega (arith, h)
 
 length-set : (xs : List ℕ) (k a : ℕ) → length (slice_set xs k a) ≡ length xs
@@ -159,11 +159,11 @@ short-written Append place a xs s = let h = length-append xs (a ∷ []) in omega
 pub met-length : (how : How) (place next : ℕ) (ps : List Piece) →
     IsPlace how place (length (addresses ps)) → MeetsPiece how place next ps →
     length (pieces_written how place next ps) ≤ length ps
-met-length Forward place next ps pl m = overwritten-length-runs place next ps m
+met-length Forward place next ps pl m = overwritten-length-continues place next ps m
 met-length Backward place next ps pl m =
-    down-length-runs place next ps (let n = length-addresses ps in omega (arith, pl, n)) m
-met-length Insert place next ps pl m = inserted-length-runs place next ps m
-met-length Append place next ps pl m = joined-length-runs place next ps pl m
+    down-length-continues place next ps (let n = length-addresses ps in omega (arith, pl, n)) m
+met-length Insert place next ps pl m = inserted-length-continues place next ps m
+met-length Append place next ps pl m = joined-length-continues place next ps pl m
 
 pub solid-written : (how : How) (place next : ℕ) (ps : List Piece) → Solid ps →
     Solid (pieces_written how place next ps)
@@ -206,11 +206,11 @@ marked-written floor Append place a xs le = marked-append floor xs a le
 
 -- what a write keeps
 pub fill-written : (f : FillOf) (how : How) (place : ℕ) → IsFill f →
-    IsPlace how place (length f.cells) → Follows f.run how place →
-    f.seams + more_seams f.run ≤ max_seams → IsShort how (length f.cells) →
+    IsPlace how place (length f.cells) → Follows f.streak how place →
+    f.seams + more_seams f.streak ≤ max_seams → IsShort how (length f.cells) →
     addresses (pieces_written how place f.next f.pieces) ≡ with_address how place f.next
     (addresses f.pieces) →
-    IsRunOn how place (f.next + 1) (pieces_written how place f.next f.pieces) →
+    IsStreakOn how place (f.next + 1) (pieces_written how place f.next f.pieces) →
     IsFill (fill_written how place f)
 fill-written f how place i pl fo few s e r = record {
   floor = let t = i.floor in omega (arith, t);
@@ -219,10 +219,10 @@ fill-written f how place i pl fo few s e r = record {
   seams = few;
   short = short-written how place f.next f.cells s;
   cells = rw e (ap (λ t. with_address how place f.next t) i.cells);
-  few = let h = written-length f.run how place f.next f.pieces (rw i.cells at pl) fo i.running in
+  few = let h = written-length f.streak how place f.next f.pieces (rw i.cells at pl) fo i.streak in
       let p = i.few in omega (arith, h, p);
   solid = solid-written how place f.next f.pieces i.solid;
-  running = r;
+  streak = r;
 }
 
 below-take : (n k : ℕ) (xs : List ℕ) → Below n xs → Below n (take k xs)
@@ -261,7 +261,7 @@ fill-cut f k i le =
       few = let h = before-few k f.pieces (omega (arith, e, n)) in let p = i.few in
           omega (arith, h, p);
       solid = solid-before k f.pieces i.solid;
-      running = tt;
+      streak = tt;
     }
 
 below-without-at : (n a : ℕ) (xs : List ℕ) → n ≤ a → Below n xs → Without a xs
@@ -278,16 +278,16 @@ once-extended floor (x ∷ xs) ys b o = (
 )
 
 on-extended : (how : How) (place next : ℕ) (ps qs : List Piece) → Solid qs →
-    IsRunOn how place next ps → IsRunOn how place next (ps ++ qs)
-on-extended Forward place next ps qs s r = runs-extended (place + 1) next ps qs s r
+    IsStreakOn how place next ps → IsStreakOn how place next (ps ++ qs)
+on-extended Forward place next ps qs s r = continues-extended (place + 1) next ps qs s r
 on-extended Backward place next ps qs s r = down-extended place next ps qs r
-on-extended Insert place next ps qs s r = runs-extended (place + 1) next ps qs s r
-on-extended Append place next ps qs s r = runs-extended (place + 1) next ps qs s r
+on-extended Insert place next ps qs s r = continues-extended (place + 1) next ps qs s r
+on-extended Append place next ps qs s r = continues-extended (place + 1) next ps qs s r
 
-pub running-extended : (run : Option LastWrite) (next : ℕ) (ps qs : List Piece) → Solid qs →
-    IsRunning run next ps → IsRunning run next (ps ++ qs)
-running-extended None next ps qs s r = tt
-running-extended (Some last) next ps qs s r = on-extended last.how last.place next ps qs s r
+pub streak-extended : (streak : Option LastWrite) (next : ℕ) (ps qs : List Piece) → Solid qs →
+    HasStreak streak next ps → HasStreak streak next (ps ++ qs)
+streak-extended None next ps qs s r = tt
+streak-extended (Some last) next ps qs s r = on-extended last.how last.place next ps qs s r
 
 -- what an extension keeps
 pub fill-extended : (f : FillOf) (ps : List Piece) (more : ℕ) → IsFill f → Solid ps →
@@ -303,10 +303,10 @@ fill-extended f ps more i sp fp b few s = record {
   cells = rw (addresses-append f.pieces ps) (ap (λ t. t ++ addresses ps) i.cells);
   few = let h = length-append f.pieces ps in let p = i.few in omega (arith, h, p, fp);
   solid = solid-append f.pieces ps i.solid sp;
-  running = running-extended f.run f.next f.pieces ps sp i.running;
+  streak = streak-extended f.streak f.next f.pieces ps sp i.streak;
 }
 
-pub ruleset extends = (fill-extended, running-extended)
+pub ruleset extends = (fill-extended, streak-extended)
 
 -- a cut within the list is one within its pieces
 pub cut-within : (k : ℕ) (ps : List Piece) → k ≤ length (addresses ps) → k ≤ total ps

@@ -1,5 +1,5 @@
 -- The layer that is being written: its addresses in pieces, a floor from which on they are fresh,
--- the address that the next write takes, which is above all of them, its seams, and the run that
+-- the address that the next write takes, which is above all of them, its seams, and the streak that
 -- goes on.
 -- "The layer that is written" in docs/rules.md.
 use Rattle.std.specs.Prelude.{◌≡◌, ◌≤◌, ℕ, zero, suc, ◌+◌, List, ◌++◌, length, take, Option, Some, None}
@@ -10,7 +10,7 @@ use Rattle.looper_rules.specs.Stack.{LastWrite}
 use Rattle.pieces.specs.Pieces.{Piece, Solid, addresses}
 use Rattle.pieces.specs.Splitting.{before}
 use Rattle.lazy_fill.specs.Addresses.{Below, Once}
-use Rattle.lazy_fill.specs.Runs.{IsRunning, more_seams, pieces_written, with_address}
+use Rattle.lazy_fill.specs.Streaks.{HasStreak, more_seams, pieces_written, with_address}
 
 -- what a fill is seen as
 pub record FillOf : Type 0 where
@@ -18,7 +18,7 @@ pub record FillOf : Type 0 where
   pub floor : ℕ
   pub next : ℕ
   pub seams : ℕ
-  pub run : Option LastWrite
+  pub streak : Option LastWrite
   pub pieces : List Piece
 
 -- what always holds of it: no address of a fresh cell stands twice, and the pieces are at most the
@@ -32,7 +32,7 @@ pub record IsFill (f : FillOf) : Type 0 where
   pub cells : f.cells ≡ addresses f.pieces
   pub few : length f.pieces ≤ f.seams
   pub solid : Solid f.pieces
-  pub running : IsRunning f.run f.next f.pieces
+  pub streak : HasStreak f.streak f.next f.pieces
 
 -- nothing is written yet, from these pieces on, at addresses from the floor on
 abbrev pub fill_started : List Piece → ℕ → ℕ → FillOf
@@ -42,7 +42,7 @@ fill_started ps seams floor =
       floor = floor;
       next = floor;
       seams = seams;
-      run = None;
+      streak = None;
       pieces =
           ps;
     }
@@ -54,8 +54,8 @@ fill_written how place f =
       cells = with_address how place f.next f.cells;
       floor = f.floor;
       next = f.next + 1;
-      seams = f.seams + more_seams f.run;
-      run = Some (record { place = place; how = how });
+      seams = f.seams + more_seams f.streak;
+      streak = Some (record { place = place; how = how });
       pieces = pieces_written how place f.next f.pieces;
     }
 
@@ -64,9 +64,9 @@ abbrev pub fill_written_span : ℕ → ℕ → FillOf → FillOf
 fill_written_span zero place f = f
 fill_written_span (suc k) place f = fill_written_span k (place + 1) (fill_written Forward place f)
 
--- the run ended
+-- the streak ended
 abbrev pub fill_broken : FillOf → FillOf
-fill_broken f = record f { run = None }
+fill_broken f = record f { streak = None }
 
 -- more pieces behind, which aren't fresh
 abbrev pub fill_extended : List Piece → ℕ → FillOf → FillOf
@@ -79,7 +79,7 @@ fill_extended ps more f =
 
 -- no cell fresh any more
 abbrev pub fill_frozen : FillOf → FillOf
-fill_frozen f = record f { floor = f.next; run = None }
+fill_frozen f = record f { floor = f.next; streak = None }
 
 -- the first so many of a list, or all
 abbrev pub cut_list : Option ℕ → List ℕ → List ℕ
@@ -95,7 +95,7 @@ cut_pieces (Some k) ps = before k ps
 abbrev pub fill_cut : Option ℕ → FillOf → FillOf
 fill_cut cut f = record f {
   cells = cut_list cut f.cells;
-  run = None;
+  streak = None;
   pieces =
       cut_pieces cut f.pieces;
 }

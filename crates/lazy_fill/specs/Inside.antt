@@ -8,10 +8,10 @@ use Rattle.lazy_fill.specs.Fills.{FillOf, IsFill}
 use Rattle.lazy_fill.specs.declared.fill.Last.{Last}
 use Rattle.lazy_fill.specs.declared.fill.Fill.TheInside.{Inside}
 
--- the run that goes on
-abbrev pub run_of : Option Last → Option LastWrite
-run_of None = None
-run_of (Some l) = Some (record { place = l.place; how = l.how })
+-- the streak that goes on
+abbrev pub streak_of : Option Last → Option LastWrite
+streak_of None = None
+streak_of (Some l) = Some (record { place = l.place; how = l.how })
 
 -- the fill of its parts
 abbrev pub fill_of : Inside → FillOf
@@ -21,7 +21,7 @@ fill_of s =
       floor = s.floor;
       next = s.next;
       seams = s.seams;
-      run = run_of s.run;
+      streak = streak_of s.streak;
       pieces = s.list.items;
     }
 

@@ -1,5 +1,5 @@
 pub mod Addresses
 pub mod Marks
-pub mod Runs
+pub mod Streaks
 pub mod Fills
 pub mod Inside

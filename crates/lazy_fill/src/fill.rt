@@ -11,16 +11,16 @@ ghost use Rattle.pieces.specs.Splitting.{IsHint};
 ghost use Rattle.lazy_fill.specs.Addresses.{Below};
 ghost use Rattle.lazy_fill.specs.Fills.{IsFill, fill_broken, fill_cut, fill_extended, fill_frozen, fill_started, fill_written, fill_written_span};
 ghost use Rattle.lazy_fill.specs.Marks.{marked};
-ghost use Rattle.lazy_fill.specs.Runs.{IsRunOn, IsShort, MeetsPiece, more_seams};
+ghost use Rattle.lazy_fill.specs.Streaks.{IsStreakOn, IsShort, MeetsPiece, more_seams};
 
 use crate::write::write_address;
-use pieces::{Hint, Piece, PieceList, run_from};
+use pieces::{Hint, Piece, PieceList, piece_from};
 use sl_base::{MAX_SEAMS, Memory};
 use sl_commands::How;
 use std::alloc::Global;
 use std::marker::Model;
 
-/// The last write of a run that goes on.
+/// The last write of a streak that goes on.
 #[derive(Clone, Copy)]
 pub(crate) struct Last {
     place: u32,
@@ -34,7 +34,7 @@ pub struct Fill {
     floor: u32,
     next: u32,
     seams: u32,
-    run: Option<Last>,
+    streak: Option<Last>,
 }
 
 impl Model for Fill {
@@ -59,7 +59,7 @@ impl Fill {
             floor: 0,
             next: 0,
             seams: 0,
-            run: None,
+            streak: None,
         })
     }
 
@@ -85,7 +85,7 @@ impl Fill {
         self.floor = floor;
         self.next = floor;
         self.seams = seams;
-        self.run = None;
+        self.streak = None;
     }
 
     /// Begins anew with no cell. The first write takes the address `floor`.
@@ -96,7 +96,7 @@ impl Fill {
         self.floor = floor;
         self.next = floor;
         self.seams = 0;
-        self.run = None;
+        self.streak = None;
     }
 
     /// The pieces of the layer.
@@ -140,19 +140,19 @@ impl Fill {
         self.seams
     }
 
-    /// Whether a run goes on.
-    pub fn runs(&self) -> bool
-        ensures { result ≡ is_some self.now.run }
+    /// Whether a streak goes on.
+    pub fn has_streak(&self) -> bool
+        ensures { result ≡ is_some self.now.streak }
     {
-        self.run.is_some()
+        self.streak.is_some()
     }
 
     /// What the next write adds to the seams.
     pub fn more(&self) -> u32
-        ensures value { result ≡ more_seams self.now.run }
+        ensures value { result ≡ more_seams self.now.streak }
         ensures within { result ≤ 2 }
     {
-        if self.run.is_some() { 0 } else { 2 }
+        if self.streak.is_some() { 0 } else { 2 }
     }
 
     /// The address at a place.
@@ -189,14 +189,14 @@ impl Fill {
         ensures old { (k : ℕ) → k < result →
             nat_le self.now.floor (get_or self.now.cells (place + k) 0) ≡ false }
     {
-        let run = run_from(self.list.pieces(), self.list.near(place), place, count);
-        if run.start >= self.floor {
+        let piece = piece_from(self.list.pieces(), self.list.near(place), place, count);
+        if piece.start >= self.floor {
             return 0;
         }
-        if run.backward {
-            return run.len();
+        if piece.backward {
+            return piece.len();
         }
-        run.len().min(self.floor - run.start)
+        piece.len().min(self.floor - piece.start)
     }
 
     /// How many cells from a place on, at most `count`, are fresh and hold addresses that rise one
@@ -211,18 +211,18 @@ impl Fill {
             get_or self.now.cells (place + k) 0 ≡ get_or self.now.cells place 0 + k }
         ensures fresh { 1 ≤ result → self.now.floor ≤ get_or self.now.cells place 0 }
     {
-        let run = run_from(self.list.pieces(), self.list.near(place), place, count);
-        if run.backward || run.start < self.floor {
+        let piece = piece_from(self.list.pieces(), self.list.near(place), place, count);
+        if piece.backward || piece.start < self.floor {
             return 0;
         }
-        run.len()
+        piece.len()
     }
 
-    /// Ends the run.
-    pub fn break_run(&mut self)
+    /// Ends the streak.
+    pub fn break_streak(&mut self)
         ensures { self.new ≡ fill_broken self.old }
     {
-        self.run = None;
+        self.streak = None;
     }
 
     /// Copies more pieces behind, which aren't fresh and count as `more` seams.
@@ -239,22 +239,22 @@ impl Fill {
         self.seams += more;
     }
 
-    /// Clears all fresh marks, and ends the run.
+    /// Clears all fresh marks, and ends the streak.
     #[tactic(auto, using(crate::proofs::FillLemmas::drafts))]
     pub fn freeze(&mut self)
         ensures { self.new ≡ fill_frozen self.old }
     {
         self.floor = self.next;
-        self.run = None;
+        self.streak = None;
     }
 
-    /// Keeps the first so many cells, or all, and ends the run.
+    /// Keeps the first so many cells, or all, and ends the streak.
     #[tactic(auto, using(crate::proofs::FillLemmas::cuts))]
     pub fn cut(&mut self, cut: Option<u32>)
         requires { IfSome cut (λ n. n ≤ length self.old.cells) }
         ensures { self.new ≡ fill_cut cut self.old }
     {
-        self.run = None;
+        self.streak = None;
         match cut {
             None => {}
             Some(count) => pieces::cut(&mut self.list, count),
@@ -266,8 +266,8 @@ impl Fill {
     #[tactic(auto, using(crate::proofs::FillLemmas::drafts))]
     pub fn write(&mut self, place: u32, how: How)
         requires place { IsPlace how place (length self.old.cells) }
-        requires follows { Follows self.old.run how place }
-        requires seams { self.old.seams + more_seams self.old.run ≤ max_seams }
+        requires follows { Follows self.old.streak how place }
+        requires seams { self.old.seams + more_seams self.old.streak ≤ max_seams }
         requires next { self.old.next + 1 < 2 ^ 32 }
         requires short { IsShort how (length self.old.cells) }
         ensures value { self.new ≡ fill_written how place self.old }
@@ -276,28 +276,28 @@ impl Fill {
         ensures within { length self.new.pieces ≤ length self.old.pieces + 2 }
         ensures met { MeetsPiece how place self.old.next self.old.pieces →
             length self.new.pieces ≤ length self.old.pieces }
-        ensures continues { IsRunOn how place self.new.next self.new.pieces }
+        ensures continues { IsStreakOn how place self.new.next self.new.pieces }
     {
         let more = self.more();
         write_address(&mut self.list, place, self.next, how);
         self.seams += more;
         self.next += 1;
-        self.run = Some(Last { place, how });
+        self.streak = Some(Last { place, how });
     }
 
     /// Writes the next addresses in a row, each over the one at its place, as many as one piece
-    /// takes in a run that goes on, but not its last. It says how many, at most `count`; none where
-    /// no run goes on.
+    /// takes in a streak that goes on, but not its last. It says how many, at most `count`; none where
+    /// no streak goes on.
     #[tactic(auto, using(crate::proofs::SpanLemmas::spans))]
     pub fn write_span(&mut self, place: u32, count: u32) -> u32
         requires within { place + count ≤ length self.old.cells }
-        requires follows { Follows self.old.run Forward place }
+        requires follows { Follows self.old.streak Forward place }
         requires next { self.old.next + count < 2 ^ 32 }
         ensures value { self.new ≡ fill_written_span result place self.old }
         ensures within { result ≤ count }
-        ensures runs { 1 ≤ result → IsTrue (is_some self.old.run) }
+        ensures streak { 1 ≤ result → IsTrue (is_some self.old.streak) }
     {
-        if self.run.is_none() {
+        if self.streak.is_none() {
             return 0;
         }
         let done = self.list.overwrite_span(place, self.next, count);
@@ -305,7 +305,7 @@ impl Fill {
             return 0;
         }
         self.next += done;
-        self.run = Some(Last {
+        self.streak = Some(Last {
             place: place + done - 1,
             how: How::Forward,
         });

@@ -6,7 +6,7 @@
 //!   all cells, and `freeze` clears them by raising it.
 //! - A write puts the next address over a cell, before it or at the end: a fresh cell, in the place
 //!   that the rules say.
-//! - The pieces are at most the seams: a write adds at most two, and none while its run goes on.
+//! - The pieces are at most the seams: a write adds at most two, and none while its streak goes on.
 //!
 //! Begin with `fill`, then `write`.
 //! The rules are "Writing", "Pieces" and "The layer that is written" in docs/rules.md.

@@ -22,7 +22,7 @@ fn a_write_makes_a_fresh_cell_in_its_place(rt: HostRuntime) -> Result<(), Fail> 
     assert!(rt; fill.address(3) == 10 && fill.address(4) == 11 && fill.address(5) == 5);
     assert!(rt; fill.is_fresh(3) && fill.is_fresh(4) && !fill.is_fresh(5));
     fill.freeze();
-    assert!(rt; !fill.is_fresh(3) && !fill.runs());
+    assert!(rt; !fill.is_fresh(3) && !fill.has_streak());
     fill.cut(Some(4));
     assert!(rt; fill.len() == 4 && fill.address(3) == 10);
     Ok(())

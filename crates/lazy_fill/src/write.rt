@@ -2,7 +2,7 @@
 
 ghost use Rattle.std.specs.Prelude.{◌≡◌, ◌≤◌, ◌<◌, ◌+◌, length};
 ghost use Rattle.looper_rules.specs.WritePlaces.{IsPlace};
-ghost use Rattle.lazy_fill.specs.Runs.{IsRunOn, IsShort, pieces_written, with_address};
+ghost use Rattle.lazy_fill.specs.Streaks.{IsStreakOn, IsShort, pieces_written, with_address};
 ghost use Rattle.pieces.specs.Pieces.{addresses, holding};
 
 use pieces::PieceList;
@@ -16,7 +16,7 @@ pub(crate) fn write_address(list: &mut PieceList, place: u32, address: u32, how:
     ensures pieces { list.new ≡ holding (pieces_written how place address list.old.items) list.old }
     ensures addresses { addresses list.new.items ≡ with_address how place address
         (addresses list.old.items) }
-    ensures runs { IsRunOn how place (address + 1) list.new.items }
+    ensures streak { IsStreakOn how place (address + 1) list.new.items }
 {
     match how {
         How::Forward => list.overwrite(place, address),

@@ -13,7 +13,7 @@ use Rattle.looper_rules.specs.Closing.{closed, closed_from, closed_recording, at
 use Rattle.looper_rules.specs.Starting.{starts, leaves_wait, mode_after_wait}
 use Rattle.looper_rules.specs.Verbs.{Column, InOff, InItsOwn, InAnother, Elsewhere, column, unless_off, closes_then, mute_toggled, unmuted, pause_toggled, plays_from_start, ends, reversed_in, record_row, layer_row, length_row, mute_row, mute_on_row, mute_off_row, pause_row, start_row, reverse_row, row, acts_in, acts_waiting, acts_from, acts}
 use Rattle.loop_states.specs.declared.act.Move.{Move}
-use Rattle.loop_states.specs.declared.act.Move.TheVariants.{LeaveWait, Close, Begin, Round, SetMode, ToStart, Turn, BreakRun, Undo, Redo, UndoAll, RedoAll}
+use Rattle.loop_states.specs.declared.act.Move.TheVariants.{LeaveWait, Close, Begin, Round, SetMode, ToStart, Turn, BreakStreak, Undo, Redo, UndoAll, RedoAll}
 use Rattle.loop_states.specs.Moves.{begins, carry, carry_all}
 use Rattle.loop_states.specs.Deciding.{leads_to_off, close_then, is_at_stop, end_moves, record_moves, layer_moves, length_moves, mode_moves, mute_off_moves, start_moves, reverse_in, reverse_moves, moves_at, moves_in, mode_behind_wait, waiting_moves, moves_from, moves_of}
 

@@ -11,7 +11,7 @@ use Rattle.sl_commands.specs.declared.Mode.TheVariants.{Off, WaitStart, Recordin
 use Rattle.sl_commands.specs.declared.Face.{Face}
 use Rattle.looper_rules.specs.Verbs.{Column, InOff, InItsOwn, InAnother, Elsewhere, column, mute_toggled, unmuted, pause_toggled}
 use Rattle.loop_states.specs.declared.act.Move.{Move}
-use Rattle.loop_states.specs.declared.act.Move.TheVariants.{LeaveWait, Close, Begin, Round, SetMode, ToStart, Turn, BreakRun, Undo, Redo, UndoAll, RedoAll}
+use Rattle.loop_states.specs.declared.act.Move.TheVariants.{LeaveWait, Close, Begin, Round, SetMode, ToStart, Turn, BreakStreak, Undo, Redo, UndoAll, RedoAll}
 use Rattle.loop_states.specs.declared.rows.Standing.{Standing}
 use Rattle.loop_states.specs.declared.rows.Standing.TheVariants.{InOff as StandsInOff, InItsOwn as StandsInItsOwn, InAnother as StandsInAnother, Elsewhere as StandsElsewhere}
 
@@ -80,7 +80,7 @@ abbrev pub reverse_in : Mode → Face → List Move
 reverse_in Recording face = close_then Recording face (Turn ∷ [])
 reverse_in Multiplying face = close_then Multiplying face (Turn ∷ [])
 reverse_in Inserting face = close_then Inserting face (Turn ∷ [])
-reverse_in _ face = BreakRun ∷ Turn ∷ []
+reverse_in _ face = BreakStreak ∷ Turn ∷ []
 
 abbrev pub reverse_moves : Column → Mode → Face → List Move
 reverse_moves InOff mode face = []

@@ -1,20 +1,20 @@
 -- A verb is carried out in moves, one after another, each on the loop that the one before it left.
 -- LeaveWait, Close, Round, Turn, Undo, Redo, UndoAll and RedoAll are the rules of these names.
 -- Begin starts a writing verb, SetMode changes the mode and nothing else, ToStart goes to the start
--- of the list, and BreakRun ends the run.
+-- of the list, and BreakStreak ends the streak.
 -- "Verbs" in docs/rules.md.
 use Rattle.std.specs.Prelude.{ℕ, List, [], ◌∷◌}
 use Rattle.sl_commands.specs.declared.Verb.{Verb}
 use Rattle.sl_commands.specs.declared.Verb.TheVariants.{Rec, Overdub, Multiply, Insert, Replace, Substitute}
 use Rattle.sl_commands.specs.declared.Mode.TheVariants.{Overdubbing, Multiplying, Inserting, Replacing, Substituting}
-use Rattle.looper_rules.specs.Stack.{run_broken}
+use Rattle.looper_rules.specs.Stack.{streak_broken}
 use Rattle.looper_rules.specs.Loop.{Loop, length_of, in_mode, at_place, turned, rounds, with_stack}
 use Rattle.looper_rules.specs.Closing.{closed}
 use Rattle.looper_rules.specs.History.{undo, redo, undo_all, redo_all}
 use Rattle.looper_rules.specs.Starting.{starts_record, starts, leaves_wait}
 use Rattle.looper_rules.specs.Verbs.{start_place}
 use Rattle.loop_states.specs.declared.act.Move.{Move}
-use Rattle.loop_states.specs.declared.act.Move.TheVariants.{LeaveWait, Close, Begin, Round, SetMode, ToStart, Turn, BreakRun, Undo, Redo, UndoAll, RedoAll}
+use Rattle.loop_states.specs.declared.act.Move.TheVariants.{LeaveWait, Close, Begin, Round, SetMode, ToStart, Turn, BreakStreak, Undo, Redo, UndoAll, RedoAll}
 
 -- starting a writing verb, by the chunks in reach
 abbrev pub begins : {A : Type 0} → Verb → ℕ → Loop A → Loop A
@@ -39,7 +39,7 @@ carry reach Round l = rounds l
 carry reach (SetMode mode) l = in_mode mode l
 carry reach ToStart l = to_start l
 carry reach Turn l = turned l
-carry reach BreakRun l = with_stack (run_broken l.stack) l
+carry reach BreakStreak l = with_stack (streak_broken l.stack) l
 carry reach Undo l = undo l
 carry reach Redo l = redo l
 carry reach UndoAll l = undo_all l

@@ -16,7 +16,7 @@ pub enum Move {
     SetMode(Mode),
     ToStart,
     Turn,
-    BreakRun,
+    BreakStreak,
     Undo,
     Redo,
     UndoAll,

@@ -1,8 +1,7 @@
 //! The table of verbs, row by row: which moves, by where the loop is.
 
 ghost use Rattle.std.specs.Prelude.{◌≡◌, ◌≤◌, ◌%◌, ◌==◌, [], ◌∷◌, ◌++◌, length, if◌then◌else◌};
-ghost use Rattle.looper_rules.specs.Loop.{is_writing};
-ghost use Rattle.looper_rules.specs.Verbs.{column, is_mode_of, mute_toggled, unmuted, pause_toggled};
+ghost use Rattle.looper_rules.specs.Verbs.{column, mute_toggled, unmuted, pause_toggled};
 ghost use Rattle.loop_states.specs.declared.act.Move.TheVariants.{ToStart, SetMode};
 ghost use Rattle.loop_states.specs.Deciding.{column_of, close_then, leads_to_off, is_at_stop, end_moves, record_moves, layer_moves, length_moves, mode_moves, mute_off_moves, start_moves, reverse_in, reverse_moves};
 
@@ -19,39 +18,6 @@ pub(crate) enum Standing {
     Elsewhere,
 }
 
-/// The mode is one in which the input is written.
-fn is_writing(mode: Mode) -> bool
-    ensures { result ≡ is_writing mode }
-{
-    match mode {
-        Mode::Recording => true,
-        Mode::Overdubbing => true,
-        Mode::Multiplying => true,
-        Mode::Inserting => true,
-        Mode::Replacing => true,
-        Mode::Substituting => true,
-        _ => false,
-    }
-}
-
-/// The mode is that of the verb.
-fn is_mode_of(verb: Verb, mode: Mode) -> bool
-    ensures { result ≡ is_mode_of verb mode }
-{
-    match (verb, mode) {
-        (Verb::Rec, Mode::Recording) => true,
-        (Verb::Overdub, Mode::Overdubbing) => true,
-        (Verb::Multiply, Mode::Multiplying) => true,
-        (Verb::Insert, Mode::Inserting) => true,
-        (Verb::Replace, Mode::Replacing) => true,
-        (Verb::Substitute, Mode::Substituting) => true,
-        (Verb::Mute, Mode::Muted) => true,
-        (Verb::Pause, Mode::Paused) => true,
-        (Verb::OneShot, Mode::OneShot) => true,
-        _ => false,
-    }
-}
-
 /// Where a loop in this mode is for a verb.
 pub(crate) fn standing_of(verb: Verb, mode: Mode) -> Standing
     ensures { column_of result ≡ column verb mode }
@@ -59,10 +25,10 @@ pub(crate) fn standing_of(verb: Verb, mode: Mode) -> Standing
     if mode == Mode::Off {
         return Standing::InOff;
     }
-    if !is_writing(mode) {
+    if !mode.is_writing() {
         return Standing::Elsewhere;
     }
-    if is_mode_of(verb, mode) {
+    if mode.is_of(verb) {
         Standing::InItsOwn
     } else {
         Standing::InAnother
@@ -258,7 +224,7 @@ fn reverse_in(mode: Mode, face: &Face, act: &mut Act)
         Mode::Multiplying => close_then(Mode::Multiplying, face, Move::Turn, act),
         Mode::Inserting => close_then(Mode::Inserting, face, Move::Turn, act),
         _ => {
-            act.push(Move::BreakRun);
+            act.push(Move::BreakStreak);
             act.push(Move::Turn);
         }
     }

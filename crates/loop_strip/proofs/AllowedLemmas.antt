@@ -56,12 +56,12 @@ rest_starts _ rest = absurd rest
 off_starts : (mode : Mode) → mode ≡ Off → (is_writing mode ≡ false) × (mode ≡ WaitStart → ⊥)
 off_starts mode is = (ap is_writing is, λ e. let two : Off ≡ WaitStart = sym is ∙ e in cc)
 
-rest_turns : (mode : Mode) (run : Option LastWrite) → IsAtRest mode → MayTurn mode run
-rest_turns Playing run rest = tt
-rest_turns Muted run rest = tt
-rest_turns PlayingOnce run rest = tt
-rest_turns Paused run rest = tt
-rest_turns _ run rest = absurd rest
+rest_turns : (mode : Mode) (streak : Option LastWrite) → IsAtRest mode → MayTurn mode streak
+rest_turns Playing streak rest = tt
+rest_turns Muted streak rest = tt
+rest_turns PlayingOnce streak rest = tt
+rest_turns Paused streak rest = tt
+rest_turns _ streak rest = absurd rest
 
 unmuted_rests : (mode : Mode) → IsAtRest mode → IsAtRest (unmuted mode)
 unmuted_rests Playing rest = tt
@@ -212,11 +212,11 @@ module _ {A : Type 0} (reach : ℕ) where
   reverse_in_allowed : (mode : Mode) (l : Loop A) → l.deck.mode ≡ mode → is_writing mode ≡ true →
       AreAllowed reach (reverse_in mode (face_of l)) l
   reverse_in_allowed Recording l is writing = closes Recording (Turn ∷ []) l is refl
-      (λ p. (subst (λ m. MayTurn m (closed l).stack.run) (sym p) tt, tt))
+      (λ p. (subst (λ m. MayTurn m (closed l).stack.streak) (sym p) tt, tt))
   reverse_in_allowed Multiplying l is writing = closes Multiplying (Turn ∷ []) l is refl
-      (λ p. (subst (λ m. MayTurn m (closed l).stack.run) (sym p) tt, tt))
+      (λ p. (subst (λ m. MayTurn m (closed l).stack.streak) (sym p) tt, tt))
   reverse_in_allowed Inserting l is writing = closes Inserting (Turn ∷ []) l is refl
-      (λ p. (subst (λ m. MayTurn m (closed l).stack.run) (sym p) tt, tt))
+      (λ p. (subst (λ m. MayTurn m (closed l).stack.streak) (sym p) tt, tt))
   reverse_in_allowed Overdubbing l is writing =
       (ap is_writing is, (subst (λ m. MayTurn m None) (sym is) refl, tt))
   reverse_in_allowed Replacing l is writing =
@@ -228,7 +228,7 @@ module _ {A : Type 0} (reach : ℕ) where
   reverse_allowed : (place : Column) (l : Loop A) → Stands place l.deck.mode →
       AreAllowed reach (reverse_moves place l.deck.mode (face_of l)) l
   reverse_allowed InOff l st = tt
-  reverse_allowed Elsewhere l st = (rest_turns l.deck.mode l.stack.run st, tt)
+  reverse_allowed Elsewhere l st = (rest_turns l.deck.mode l.stack.streak st, tt)
   reverse_allowed InItsOwn l st = reverse_in_allowed l.deck.mode l refl st
   reverse_allowed InAnother l st = reverse_in_allowed l.deck.mode l refl st
 

@@ -138,14 +138,14 @@ written_by true mode backward place x s other writing in_mode = let how = how_in
       long = long_behind mode backward place x 0 s.layers s.redo other writing in_mode;
     }
 written_by false mode backward place x s other writing in_mode = let how = how_in mode backward in
-    let seams = cond (is_some s.run) 0 2 in record {
+    let seams = cond (is_some s.streak) 0 2 in record {
       cycle = behind_cycle how place x seams s.layers;
       base = behind_base how place x seams s.layers;
       count = behind_count how place x seams s.layers;
       redo = refl;
       pin = refl;
       seams = let more = behind_seams how place x seams s.layers in
-          let few = few_seams (is_some s.run) in omega (arith, more, few);
+          let few = few_seams (is_some s.streak) in omega (arith, more, few);
       tape_from = omega arith;
       tape_to = omega arith;
       long = long_behind mode backward place x seams s.layers s.redo other writing in_mode;
@@ -180,10 +180,10 @@ fits_there reach n l h =
     in let short = h.short
     in or_right (meets_fresh how l.deck.pos l.stack) (new_cell_fits reach how l.stack)
     (and_both (has_room reach l.stack.tape)
-    (is_some l.stack.run || nat_le (total_seams l.stack.layers) (max_seams - 2))
+    (is_some l.stack.streak || nat_le (total_seams l.stack.layers) (max_seams - 2))
     (overwrites how || nat_lt (current_length l.stack.layers) max_list_frames)
     (room_there reach n l.stack.tape c)
-    (or_right (is_some l.stack.run) _
+    (or_right (is_some l.stack.streak) _
     (le_true (total_seams l.stack.layers) (max_seams - 2) (omega (arith, seams))))
     (or_right (overwrites how) _
     (lt_true (current_length l.stack.layers) max_list_frames (omega (arith, short)))))

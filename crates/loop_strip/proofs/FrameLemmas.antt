@@ -10,14 +10,14 @@ use Rattle.sl_commands.specs.declared.Mode.TheVariants.{Off, WaitStart, Recordin
 use Rattle.sl_commands.specs.declared.Started.{Started}
 use Rattle.sl_commands.specs.declared.Started.TheVariants.{Ok}
 use Rattle.looper_rules.specs.Layers.{Layer, current_length, current_list, current_base_length}
-use Rattle.looper_rules.specs.Stack.{Stack, LastWrite, run_broken}
+use Rattle.looper_rules.specs.Stack.{Stack, LastWrite, streak_broken}
 use Rattle.looper_rules.specs.Opening.{opening}
 use Rattle.looper_rules.specs.Writing.{extension_fits, extended_if}
 use Rattle.looper_rules.specs.WritePlaces.{IsPlace, Follows}
 use Rattle.looper_rules.specs.Loop.{Loop, Deck, Controls, is_writing, length_of, with_stack, refused_once}
 use Rattle.looper_rules.specs.Starting.{records, leaves_wait}
 use Rattle.looper_rules.specs.LoopFrame.{stopped, extends, wakes_as, awake_in, awake, ready_in, ready, heard_from, heard, how_in, fits}
-use Rattle.looper_rules.specs.States.{InMode, IsRun, GoesOn, IsBehind, HasCurrent, IsOpenOver, AreWithin}
+use Rattle.looper_rules.specs.States.{InMode, IsStreak, GoesOn, IsBehind, HasCurrent, IsOpenOver, AreWithin}
 use Rattle.looper_rules.specs.Reached.{Unchanged, Keeps as KeepsLoop}
 use Rattle.looper_laws.proofs.Kept.LoopFrame.{IsPlaced, IsReady, awake_keeps, ready_keeps}
 use Rattle.loop_tape.specs.Pools.{PoolOf}
@@ -224,7 +224,7 @@ pub heard_is : (s : Parts) (p : PoolOf) (x : Sound) →
 unfolding seen
 heard_is s p x is = is
 
--- a place for a write, and the run that it goes on with
+-- a place for a write, and the streak that it goes on with
 place_in : {A : Type 0} (mode : Mode) (ls redo : List (Layer A)) (pos : ℕ) (backward : Bool) →
     is_writing mode ≡ true → IsPlaced mode pos (current_length ls) →
     InMode mode ls redo pos backward →
@@ -251,30 +251,30 @@ place_for mode s how w is writing placed way =
     placed (subst (λ m. InMode m s.layers.stack.layers s.layers.stack.redo s.deck.pos
     s.deck.backward) is w.loop.in_mode))
 
-goes_follows : (run : Option LastWrite) (mode : Mode) (pos : ℕ) (backward : Bool) →
-    GoesOn run mode pos backward → Follows run (how_in mode backward) pos
+goes_follows : (streak : Option LastWrite) (mode : Mode) (pos : ℕ) (backward : Bool) →
+    GoesOn streak mode pos backward → Follows streak (how_in mode backward) pos
 goes_follows None mode pos backward h = tt
 goes_follows (Some last) mode pos backward h =
     (h.0, subst (λ how. IsBehind how last.place pos) h.0 h.1)
 
-run_goes : (mode : Mode) (run : Option LastWrite) (pos : ℕ) (backward : Bool) →
-    is_writing mode ≡ true → IsRun mode run pos backward → GoesOn run mode pos backward
-run_goes Recording run pos backward writing h = h
-run_goes Overdubbing run pos backward writing h = h
-run_goes Multiplying run pos backward writing h = h
-run_goes Inserting run pos backward writing h = h
-run_goes Replacing run pos backward writing h = h
-run_goes Substituting run pos backward writing h = h
-run_goes _ run pos backward writing h = let no : ⊥ = cc in absurd no
+streak_goes : (mode : Mode) (streak : Option LastWrite) (pos : ℕ) (backward : Bool) →
+    is_writing mode ≡ true → IsStreak mode streak pos backward → GoesOn streak mode pos backward
+streak_goes Recording streak pos backward writing h = h
+streak_goes Overdubbing streak pos backward writing h = h
+streak_goes Multiplying streak pos backward writing h = h
+streak_goes Inserting streak pos backward writing h = h
+streak_goes Replacing streak pos backward writing h = h
+streak_goes Substituting streak pos backward writing h = h
+streak_goes _ streak pos backward writing h = let no : ⊥ = cc in absurd no
 
 pub follows_for : (mode : Mode) (s : Parts) (how : How) → IsWhole s → s.deck.mode ≡ mode →
     is_writing mode ≡ true → how ≡ how_in mode s.deck.backward →
-    Follows s.layers.stack.run how s.deck.pos
+    Follows s.layers.stack.streak how s.deck.pos
 follows_for mode s how w is writing way =
-    subst (λ h. Follows s.layers.stack.run h s.deck.pos) (sym way)
-    (goes_follows s.layers.stack.run mode s.deck.pos s.deck.backward
-    (run_goes mode s.layers.stack.run s.deck.pos s.deck.backward writing
-    (subst (λ m. IsRun m s.layers.stack.run s.deck.pos s.deck.backward) is w.loop.run)))
+    subst (λ h. Follows s.layers.stack.streak h s.deck.pos) (sym way)
+    (goes_follows s.layers.stack.streak mode s.deck.pos s.deck.backward
+    (streak_goes mode s.layers.stack.streak s.deck.pos s.deck.backward writing
+    (subst (λ m. IsStreak m s.layers.stack.streak s.deck.pos s.deck.backward) is w.loop.streak)))
 
 -- the list is short enough to go on in
 current_short : {A : Type 0} (tape : ℕ) (ls : List (Layer A)) → AreWithin tape ls →
@@ -282,21 +282,21 @@ current_short : {A : Type 0} (tape : ℕ) (ls : List (Layer A)) → AreWithin ta
 current_short tape [] h = omega arith
 current_short tape (l ∷ ls) h = h.0.0
 
--- no run goes on where nothing is written
-quiet_run : (mode : Mode) (run : Option LastWrite) (pos : ℕ) (backward : Bool) →
-    is_writing mode ≡ false → IsRun mode run pos backward → run ≡ None
-quiet_run Recording run pos backward quiet h = let no : ⊥ = cc in absurd no
-quiet_run Overdubbing run pos backward quiet h = let no : ⊥ = cc in absurd no
-quiet_run Multiplying run pos backward quiet h = let no : ⊥ = cc in absurd no
-quiet_run Inserting run pos backward quiet h = let no : ⊥ = cc in absurd no
-quiet_run Replacing run pos backward quiet h = let no : ⊥ = cc in absurd no
-quiet_run Substituting run pos backward quiet h = let no : ⊥ = cc in absurd no
-quiet_run _ run pos backward quiet h = h
+-- no streak goes on where nothing is written
+quiet_streak : (mode : Mode) (streak : Option LastWrite) (pos : ℕ) (backward : Bool) →
+    is_writing mode ≡ false → IsStreak mode streak pos backward → streak ≡ None
+quiet_streak Recording streak pos backward quiet h = let no : ⊥ = cc in absurd no
+quiet_streak Overdubbing streak pos backward quiet h = let no : ⊥ = cc in absurd no
+quiet_streak Multiplying streak pos backward quiet h = let no : ⊥ = cc in absurd no
+quiet_streak Inserting streak pos backward quiet h = let no : ⊥ = cc in absurd no
+quiet_streak Replacing streak pos backward quiet h = let no : ⊥ = cc in absurd no
+quiet_streak Substituting streak pos backward quiet h = let no : ⊥ = cc in absurd no
+quiet_streak _ streak pos backward quiet h = h
 
-pub still_run : (mode : Mode) (s : Parts) → IsWhole s → s.deck.mode ≡ mode →
-    is_writing mode ≡ false → s.layers.stack.run ≡ None
-still_run mode s w is quiet = quiet_run mode s.layers.stack.run s.deck.pos s.deck.backward quiet
-    (subst (λ m. IsRun m s.layers.stack.run s.deck.pos s.deck.backward) is w.loop.run)
+pub still_streak : (mode : Mode) (s : Parts) → IsWhole s → s.deck.mode ≡ mode →
+    is_writing mode ≡ false → s.layers.stack.streak ≡ None
+still_streak mode s w is quiet = quiet_streak mode s.layers.stack.streak s.deck.pos s.deck.backward quiet
+    (subst (λ m. IsStreak m s.layers.stack.streak s.deck.pos s.deck.backward) is w.loop.streak)
 
 -- what may be advanced outside the writing modes
 may_quiet : (mode : Mode) (pos len : ℕ) → is_writing mode ≡ false → (HasPlace mode → pos < len) →
@@ -331,14 +331,14 @@ pub ruleset preparing = (did_ready, whole_ready, placed_ready)
 
 pub ruleset mixing = (inside, feedback_within)
 
--- where no run goes on, breaking it changes nothing
-pub unbroken_stack : {A : Type 0} (s : Stack A) → s.run ≡ None → s ≡ run_broken s
-unbroken_stack s is = ap (λ r. record s { run = r }) is
+-- where no streak goes on, breaking it changes nothing
+pub unbroken_stack : {A : Type 0} (s : Stack A) → s.streak ≡ None → s ≡ streak_broken s
+unbroken_stack s is = ap (λ r. record s { streak = r }) is
 
-pub unbroken_loop : {A : Type 0} (l : Loop A) → l.stack.run ≡ None →
-    l ≡ with_stack (run_broken l.stack) l
+pub unbroken_loop : {A : Type 0} (l : Loop A) → l.stack.streak ≡ None →
+    l ≡ with_stack (streak_broken l.stack) l
 unbroken_loop l is = ap (λ s. with_stack s l) (unbroken_stack l.stack is)
 
 pub ruleset unbroken = (unbroken_stack, unbroken_loop)
 
-pub ruleset overrunning = (may_advance, still_run)
+pub ruleset overrunning = (may_advance, still_streak)

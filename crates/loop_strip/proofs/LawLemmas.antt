@@ -112,7 +112,7 @@ wrote_over below false x l h =
       stack =
           record l.stack {
             layers = with_current (finished_layer None l.stack.tape) l.stack.layers;
-            run = None;
+            streak = None;
           };
     }
     in let round = wraps l.deck.backward l.deck.pos (length_of c)

@@ -269,7 +269,7 @@ module _ {A B : Type 0} (f : A → B) where
   pub loop_there : (l : Loop A) → IsLoop l → IsLoop (loop_map f l)
   loop_there l h = record {
     in_mode = in_there l.deck.mode l.stack.layers l.stack.redo l.deck.pos l.deck.backward h.in_mode;
-    run = h.run;
+    streak = h.streak;
     stack = stack_there l.stack h.stack;
     refused = h.refused;
   }
@@ -277,7 +277,7 @@ module _ {A B : Type 0} (f : A → B) where
   pub loop_back : (l : Loop A) → IsLoop (loop_map f l) → IsLoop l
   loop_back l h = record {
     in_mode = in_back l.deck.mode l.stack.layers l.stack.redo l.deck.pos l.deck.backward h.in_mode;
-    run = h.run;
+    streak = h.streak;
     stack = stack_back l.stack h.stack;
     refused = h.refused;
   }

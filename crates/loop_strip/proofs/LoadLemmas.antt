@@ -80,7 +80,7 @@ loaded_loop list cycle l some short from to none =
     in let all : length list ≤ length list = omega arith
     in record {
       in_mode = (((closed, tt), closed.not_empty), tt);
-      run = refl;
+      streak = refl;
       stack = record {
         layers_within = ((few, all), tt);
         redo_within = tt;
@@ -111,7 +111,7 @@ loaded_empty {A} list cycle =
       redo = [];
       tape = n;
       pin = None;
-      run =
+      streak =
           None;
     } in s) none
 

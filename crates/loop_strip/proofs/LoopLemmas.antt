@@ -10,7 +10,7 @@ use Rattle.sl_commands.specs.declared.Mode.TheVariants.{Overdubbing, Replacing, 
 use Rattle.sl_commands.specs.declared.Started.{Started}
 use Rattle.sl_commands.specs.declared.Started.TheVariants.{Ok}
 use Rattle.looper_rules.specs.Layers.{Layer, current_length}
-use Rattle.looper_rules.specs.Stack.{Stack, Pin, run_broken}
+use Rattle.looper_rules.specs.Stack.{Stack, Pin, streak_broken}
 use Rattle.looper_rules.specs.Mapping.{layer_map, pin_map, stack_map}
 use Rattle.looper_rules.specs.Loop.{Loop, is_writing, length_of, base_length_of, cycle_of, in_mode, in_mode_at, at_place, with_stack, refused_once, face_of}
 use Rattle.looper_rules.specs.Opening.{opening}
@@ -21,7 +21,7 @@ use Rattle.looper_rules.specs.Starting.{records, starts_record, layers_on, start
 use Rattle.looper_rules.specs.Verbs.{start_place}
 use Rattle.looper_rules.specs.LoopFrame.{stopped, extends, ready_in, wraps, wrapped_mode, wrapped_place, goes_on, stops_if, advanced_in, advanced, overrun_in, wakes_as, awake_in}
 use Rattle.loop_states.specs.declared.act.Move.{Move}
-use Rattle.loop_states.specs.declared.act.Move.TheVariants.{LeaveWait, Close, Begin, Round, SetMode, ToStart, Turn, BreakRun, Undo, Redo, UndoAll, RedoAll}
+use Rattle.loop_states.specs.declared.act.Move.TheVariants.{LeaveWait, Close, Begin, Round, SetMode, ToStart, Turn, BreakStreak, Undo, Redo, UndoAll, RedoAll}
 use Rattle.loop_states.specs.Moves.{to_start, begins, carry}
 use Rattle.loop_strip.specs.Strips.{loop_map}
 use Rattle.loop_strip.specs.Openings.{opens_record}
@@ -202,7 +202,7 @@ module _ {A B : Type 0} (f : A → B) where
   carry-mapped reach (SetMode mode) l = refl
   carry-mapped reach ToStart l = to_start-mapped l
   carry-mapped reach Turn l = refl
-  carry-mapped reach BreakRun l = refl
+  carry-mapped reach BreakStreak l = refl
   carry-mapped reach Undo l = undo-mapped l
   carry-mapped reach Redo l = redo-mapped l
   carry-mapped reach UndoAll l = undo_each-mapped l.stack.layers l
@@ -241,7 +241,7 @@ module _ {A B : Type 0} (f : A → B) where
   goes_on-mapped : (wrap : Bool) (l : Loop A) →
       loop_map f (goes_on wrap l) ≡ goes_on wrap (loop_map f l)
   goes_on-mapped true l =
-      ap (λ n. with_stack (run_broken (stack_map f l.stack))
+      ap (λ n. with_stack (streak_broken (stack_map f l.stack))
       (in_mode_at (wrapped_mode l.deck.mode) (wrapped_place l.deck.backward n) (loop_map f l)))
       (sym (length-mapped l))
   goes_on-mapped false l = refl

@@ -3,15 +3,15 @@ use Rattle.std.proofs.Common.{◌≡◌, ℕ, ◌<◌, Bool, true, false, not, L
 use Rattle.sl_commands.specs.declared.Mode.{Mode}
 use Rattle.sl_commands.specs.declared.Mode.TheVariants.{WaitStart, Playing, Overdubbing, Replacing, Muted, OneShot, Substituting, Paused}
 use Rattle.looper_rules.specs.Layers.{Layer}
-use Rattle.looper_rules.specs.Stack.{LastWrite, run_broken}
+use Rattle.looper_rules.specs.Stack.{LastWrite, streak_broken}
 use Rattle.looper_rules.specs.Room.{chunks_of}
 use Rattle.layer_memory.specs.Seen.{Held}
 use Rattle.looper_rules.specs.Loop.{Loop, is_writing, with_stack, in_mode, turned, rounds, refused_once, length_of}
 use Rattle.looper_rules.specs.Starting.{leaves_wait, mode_after_wait}
 use Rattle.looper_rules.specs.Verbs.{start_place}
-use Rattle.looper_rules.specs.States.{InMode, IsRun}
+use Rattle.looper_rules.specs.States.{InMode, IsStreak}
 use Rattle.looper_rules.specs.Reached.{Unchanged, Keeps}
-use Rattle.looper_laws.proofs.Kept.Decks.{with_deck, refused_keeps, no_run}
+use Rattle.looper_laws.proofs.Kept.Decks.{with_deck, refused_keeps, no_streak}
 use Rattle.looper_laws.proofs.Kept.Rest.{IsResting, resting_is_quiet, rests_again, resting_inside}
 use Rattle.looper_laws.proofs.Kept.Verbs.{set_to, leaves_wait_keeps}
 use Rattle.loop_states.specs.Moves.{to_start}
@@ -70,7 +70,7 @@ whole_left s s' w waits is layers pinned =
 
 pub rounds_keeps : {A : Type 0} {a : Unchanged} (l : Loop A) → Keeps a l → Keeps a (rounds l)
 rounds_keeps l h =
-    with_deck (record l.deck { rounding = true }) l.stack.run h h.loop.in_mode h.loop.run refl
+    with_deck (record l.deck { rounding = true }) l.stack.streak h h.loop.in_mode h.loop.streak refl
 
 pub whole_rounds : (s s' : Parts) → IsWhole s → loop_of s' ≡ rounds (loop_of s) →
     s'.layers ≡ s.layers → s'.pinned ≡ s.pinned → IsWhole s'
@@ -108,43 +108,43 @@ whole_started s s' w before is layers pinned =
     keeps_mode s s' (to_start (loop_of s)) w is (to_start_keeps (loop_of s) before (own_keeps s w))
     pinned (ap (λ (h : Held). h.writing) layers) refl
 
--- where no run goes on, the direction may change in a mode that writes over its list
+-- where no streak goes on, the direction may change in a mode that writes over its list
 turn_in : {A : Type 0} (mode : Mode) (layers redo : List (Layer A)) (pos : ℕ)
-    (backward other : Bool) (run : Option LastWrite) → MayTurn mode run →
-    InMode mode layers redo pos backward → IsRun mode run pos backward →
-    InMode mode layers redo pos other × IsRun mode run pos other
-turn_in Playing layers redo pos backward other run may h r = (h, r)
-turn_in Muted layers redo pos backward other run may h r = (h, r)
-turn_in OneShot layers redo pos backward other run may h r = (h, r)
-turn_in Paused layers redo pos backward other run may h r = (h, r)
-turn_in Overdubbing layers redo pos backward other run may h r =
-    (h, subst (λ w. IsRun Overdubbing w pos other) (sym may) tt)
-turn_in Replacing layers redo pos backward other run may h r =
-    (h, subst (λ w. IsRun Replacing w pos other) (sym may) tt)
-turn_in Substituting layers redo pos backward other run may h r =
-    (h, subst (λ w. IsRun Substituting w pos other) (sym may) tt)
-turn_in _ layers redo pos backward other run may h r = absurd may
+    (backward other : Bool) (streak : Option LastWrite) → MayTurn mode streak →
+    InMode mode layers redo pos backward → IsStreak mode streak pos backward →
+    InMode mode layers redo pos other × IsStreak mode streak pos other
+turn_in Playing layers redo pos backward other streak may h r = (h, r)
+turn_in Muted layers redo pos backward other streak may h r = (h, r)
+turn_in OneShot layers redo pos backward other streak may h r = (h, r)
+turn_in Paused layers redo pos backward other streak may h r = (h, r)
+turn_in Overdubbing layers redo pos backward other streak may h r =
+    (h, subst (λ w. IsStreak Overdubbing w pos other) (sym may) tt)
+turn_in Replacing layers redo pos backward other streak may h r =
+    (h, subst (λ w. IsStreak Replacing w pos other) (sym may) tt)
+turn_in Substituting layers redo pos backward other streak may h r =
+    (h, subst (λ w. IsStreak Substituting w pos other) (sym may) tt)
+turn_in _ layers redo pos backward other streak may h r = absurd may
 
-pub turned_keeps : {A : Type 0} {a : Unchanged} (l : Loop A) → MayTurn l.deck.mode l.stack.run →
+pub turned_keeps : {A : Type 0} {a : Unchanged} (l : Loop A) → MayTurn l.deck.mode l.stack.streak →
     Keeps a l → Keeps a (turned l)
 turned_keeps l may h =
     let now = turn_in l.deck.mode l.stack.layers l.stack.redo l.deck.pos l.deck.backward
-    (not l.deck.backward) l.stack.run may h.loop.in_mode h.loop.run
-    in with_deck (record l.deck { backward = not l.deck.backward }) l.stack.run h now.0 now.1 refl
+    (not l.deck.backward) l.stack.streak may h.loop.in_mode h.loop.streak
+    in with_deck (record l.deck { backward = not l.deck.backward }) l.stack.streak h now.0 now.1 refl
 
-pub whole_turned : (s s' : Parts) → IsWhole s → MayTurn s.deck.mode s.layers.stack.run →
+pub whole_turned : (s s' : Parts) → IsWhole s → MayTurn s.deck.mode s.layers.stack.streak →
     loop_of s' ≡ turned (loop_of s) → s'.layers ≡ s.layers → s'.pinned ≡ s.pinned → IsWhole s'
 whole_turned s s' w may is layers pinned = keeps_mode s s' (turned (loop_of s)) w is
     (turned_keeps (loop_of s) may (own_keeps s w)) pinned (ap (λ (h : Held). h.writing) layers) refl
 
 pub broken_keeps : {A : Type 0} {a : Unchanged} (l : Loop A) → Keeps a l →
-    Keeps a (with_stack (run_broken l.stack) l)
+    Keeps a (with_stack (streak_broken l.stack) l)
 broken_keeps l h =
-    with_deck l.deck None h h.loop.in_mode (no_run l.deck.mode l.deck.pos l.deck.backward) refl
+    with_deck l.deck None h h.loop.in_mode (no_streak l.deck.mode l.deck.pos l.deck.backward) refl
 
 pub whole_broken : (s s' : Parts) → IsWhole s → is_writing s.deck.mode ≡ true →
-    loop_of s' ≡ with_stack (run_broken (loop_of s).stack) (loop_of s) → s'.layers.writing ≡ true →
+    loop_of s' ≡ with_stack (streak_broken (loop_of s).stack) (loop_of s) → s'.layers.writing ≡ true →
     s'.pinned ≡ s.pinned → IsWhole s'
 whole_broken s s' w writing is held pinned =
-    keeps_mode s s' (with_stack (run_broken (loop_of s).stack) (loop_of s)) w is
+    keeps_mode s s' (with_stack (streak_broken (loop_of s).stack) (loop_of s)) w is
     (broken_keeps (loop_of s) (own_keeps s w)) pinned (held ∙ sym (w.writing ∙ writing)) refl

@@ -26,13 +26,13 @@ use Rattle.loop_strip.specs.Strips.{loop_map, seen, reach_in, Owns, Did}
 use Rattle.loop_strip.specs.declared.parts.Parts.{Parts}
 use Rattle.loop_strip.specs.Parts.{loop_of, strip_of, IsWhole}
 use Rattle.loop_strip.specs.Advances.{MayAdvance}
-use Rattle.loop_strip.specs.Running.{RunsTo}
+use Rattle.loop_strip.specs.SoFar.{PlaysTo}
 use Rattle.layer_memory.proofs.SeenLemmas.{lengths-mapped}
 use Rattle.loop_strip.proofs.LoopLemmas.{advanced-mapped, overrun-mapped}
 use Rattle.loop_strip.proofs.DidLemmas.{seen_deck, reaches, did_kept, did_as, did_then, did_also, did_nothing}
 use Rattle.loop_strip.proofs.OpeningLemmas.{layers_of}
 use Rattle.loop_strip.proofs.Whole.{writing_inside}
-use Rattle.loop_strip.proofs.FrameLemmas.{whole_did, inside, place_for, follows_for, may_advance, still_run, list_short}
+use Rattle.loop_strip.proofs.FrameLemmas.{whole_did, inside, place_for, follows_for, may_advance, still_streak, list_short}
 
 -- lengths behind a write
 set_length : {A : Type 0} (xs : List A) (k : ℕ) (x : A) → length (slice_set xs k x) ≡ length xs
@@ -286,23 +286,23 @@ pub take_part : {A : Type 0} (n : ℕ) (part rest new : List A) → length part 
 take_part n part rest new long is = ap (take n) is ∙ ap (λ k. take k (part ++ rest)) (sym long)
     ∙ take-append_seam part rest
 
-pub runs_first : (xs heard : List Sound) (s : Parts) (p : PoolOf) → Owns (strip_of s) p →
-    IsWhole s → RunsTo 0 xs heard s s p p
-runs_first xs heard s p o w = record { did = did_nothing o; heard = refl; whole = w }
+pub plays_first : (xs heard : List Sound) (s : Parts) (p : PoolOf) → Owns (strip_of s) p →
+    IsWhole s → PlaysTo 0 xs heard s s p p
+plays_first xs heard s p o w = record { did = did_nothing o; heard = refl; whole = w }
 
 take_within : {A : Type 0} (n : ℕ) (xs ys : List A) → n ≤ length xs → take n (xs ++ ys) ≡ take n xs
 take_within zero xs ys le = refl
 take_within (suc n) [] ys le = absurd (omega (arith, le))
 take_within (suc n) (x ∷ xs) ys le = ap (λ zs. x ∷ zs) (take_within n xs ys (omega (arith, le)))
 
-pub runs_more : (done count : ℕ) (xs hs part behind new : List Sound) (first now then : Parts)
-    (p p1 p2 : PoolOf) → done ≤ length hs → count ≤ length part → RunsTo done xs hs first now p p1 →
+pub plays_more : (done count : ℕ) (xs hs part behind new : List Sound) (first now then : Parts)
+    (p p1 p2 : PoolOf) → done ≤ length hs → count ≤ length part → PlaysTo done xs hs first now p p1 →
     Did (loop_over (take count (drop done xs))) (strip_of now) (strip_of then) p1 p2 →
     take count part ≡ loop_heard_over (take count (drop done xs)) (reach_in (strip_of now) p1)
     (seen (strip_of now) p1) →
-    new ≡ take done hs ++ (part ++ behind) → IsWhole then → RunsTo (done + count) xs new first then
+    new ≡ take done hs ++ (part ++ behind) → IsWhole then → PlaysTo (done + count) xs new first then
     p p2
-runs_more done count xs hs part behind new first now then p p1 p2 le few so d sound is w =
+plays_more done count xs hs part behind new first now then p p1 p2 le few so d sound is w =
     let r = reach_in (strip_of first) p
     in let l = seen (strip_of first) p
     in let rest = take count (drop done xs)
@@ -325,11 +325,11 @@ runs_more done count xs hs part behind new first now then p p1 p2 le few so d so
       whole = w;
     }
 
-pub runs_done : (n : ℕ) (xs hs : List Sound) (first now : Parts) (p p' : PoolOf) → n ≡ length xs →
-    length xs ≡ length hs → RunsTo n xs hs first now p p' →
+pub plays_done : (n : ℕ) (xs hs : List Sound) (first now : Parts) (p p' : PoolOf) → n ≡ length xs →
+    length xs ≡ length hs → PlaysTo n xs hs first now p p' →
     (Did (loop_over xs) (strip_of first) (strip_of now) p p')
     × (hs ≡ loop_heard_over xs (reach_in (strip_of first) p) (seen (strip_of first) p))
-runs_done n xs hs first now p p' all same so =
+plays_done n xs hs first now p p' all same so =
     let whole = take_all n xs all
     in (
       subst (λ ys. Did (loop_over ys) (strip_of first) (strip_of now) p p') whole so.did,
@@ -337,10 +337,10 @@ runs_done n xs hs first now p p' all same so =
           (λ ys. loop_heard_over ys (reach_in (strip_of first) p) (seen (strip_of first) p)) whole,
     )
 
-pub ruleset passing = (may_advance, still_run, did_passed)
+pub ruleset passing = (may_advance, still_streak, did_passed)
 
 pub ruleset writing = (place_for, follows_for, may_write, whole_same, did_wrote, did_overran)
 
 pub ruleset framing = (did_framed, whole_framed, heard_ready)
 
-pub ruleset running = (runs_first, runs_more, runs_done)
+pub ruleset playing = (plays_first, plays_more, plays_done)

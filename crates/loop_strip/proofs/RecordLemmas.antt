@@ -35,7 +35,7 @@ record IsRecorded (ys : List Sound) (start : ℕ) (controls : Controls)
   list : current_list l.stack.layers ≡ ys
   tape : l.stack.tape ≡ start + length ys
   some : 1 ≤ length l.stack.layers
-  seams : (is_some l.stack.run || nat_le (total_seams l.stack.layers) (max_seams - 2)) ≡ true
+  seams : (is_some l.stack.streak || nat_le (total_seams l.stack.layers) (max_seams - 2)) ≡ true
   same : l.controls ≡ controls
 
 -- there is room for one more
@@ -90,7 +90,7 @@ recorded_more ys x start reach controls l h room short =
     in let long = length_listed l.stack.layers ys h.list
     in let fit : fits reach l0 ≡ true =
     and_three (has_room reach l.stack.tape)
-    (is_some l.stack.run || nat_le (total_seams l.stack.layers) (max_seams - 2))
+    (is_some l.stack.streak || nat_le (total_seams l.stack.layers) (max_seams - 2))
     (nat_lt (current_length l.stack.layers) max_list_frames)
     (room_for reach l.stack.tape (subst (λ n. chunks_of (n + 1) ≤ reach) (sym tape) room)) h.seams
     (lt-ltb (current_length l.stack.layers) max_list_frames (omega (arith, long, short)))
@@ -100,7 +100,7 @@ recorded_more ys x start reach controls l h room short =
       mode = refl;
       list = list_more l.deck.pos _ x l.stack.layers h.some ∙ ap (λ zs. zs ++ x ∷ []) h.list;
       tape = omega (arith, tape, more);
-      some = let same = count_more l.deck.pos (cond (is_some l.stack.run) 0 2) x l.stack.layers in
+      some = let same = count_more l.deck.pos (cond (is_some l.stack.streak) 0 2) x l.stack.layers in
           let some = h.some in omega (arith, same, some);
       seams = refl;
       same = h.same;

@@ -431,7 +431,7 @@ row_open Substituting s w is over = subst (λ b. IsTrue b) (sym (w.writing ∙ a
 row_open _ s w is over = absurd over
 
 pub row_follows : (mode : Mode) (s : Parts) → IsWhole s → s.deck.mode ≡ mode → WritesOver mode →
-    s.deck.backward ≡ false → Follows s.layers.stack.run Forward s.deck.pos
+    s.deck.backward ≡ false → Follows s.layers.stack.streak Forward s.deck.pos
 row_follows Overdubbing s w is over forward =
     follows_for Overdubbing s Forward w is refl (ap (λ b. how_in Overdubbing b) (sym forward))
 row_follows Replacing s w is over forward =

@@ -104,7 +104,7 @@ pub new_whole : (settings : StripSettings) (s : Parts) (chunks : ℕ) → is_str
 new_whole settings s chunks is loop_is writing off unpinned stack = record {
   loop = subst (λ (l : Loop ℕ). IsLoop l) (sym loop_is) (record {
     in_mode = ((refl, refl), tt);
-    run = refl;
+    streak = refl;
     stack = record {
       layers_within = tt;
       redo_within = tt;
@@ -131,7 +131,7 @@ pub whole_set : (s : Parts) (h : ControlsIn) → IsWhole s → AreControls (cont
 whole_set s h w in_range = record {
   loop = record {
     in_mode = w.loop.in_mode;
-    run = w.loop.run;
+    streak = w.loop.streak;
     stack = w.loop.stack;
     refused =
         w.loop.refused;

@@ -71,7 +71,7 @@ record IsUnderway (done back : List Sound) (start : ℕ) (controls : Controls)
   pos : l.deck.pos ≡ length done
   tape : l.stack.tape ≡ start + length done
   some : 1 ≤ length l.stack.layers
-  seams : (is_some l.stack.run || nat_le (total_seams l.stack.layers) (max_seams - 2)) ≡ true
+  seams : (is_some l.stack.streak || nat_le (total_seams l.stack.layers) (max_seams - 2)) ≡ true
   same : l.controls ≡ controls
 
 -- a whole turn of it
@@ -133,7 +133,7 @@ module _ (done : List Sound) (o : Sound) (os : List Sound) (x : Sound) (start re
       || new_cell_fits reach (cond b Backward Forward) l.stack) h.forward
       ∙ ap (λ b. b || new_cell_fits reach Forward l.stack) place_stale
       ∙ and_three (has_room reach l.stack.tape)
-      (is_some l.stack.run || nat_le (total_seams l.stack.layers) (max_seams - 2)) true
+      (is_some l.stack.streak || nat_le (total_seams l.stack.layers) (max_seams - 2)) true
       (room_for reach l.stack.tape (subst (λ n. chunks_of (n + 1) ≤ reach) (sym h.tape) room))
       h.seams refl
 
@@ -152,7 +152,7 @@ module _ (done : List Sound) (o : Sound) (os : List Sound) (x : Sound) (start re
   cells_then : current_cells (newly_written Forward l.deck.pos (mixed_on controls.feedback o x)
       l.stack).layers ≡ cells_of (done ++ mixed_on controls.feedback o x ∷ []) os
   cells_then =
-      cells_written l.deck.pos (cond (is_some l.stack.run) 0 2) (mixed_on controls.feedback o x)
+      cells_written l.deck.pos (cond (is_some l.stack.streak) 0 2) (mixed_on controls.feedback o x)
       l.stack.layers h.some
       ∙ ap₂ (λ cs p. slice_set cs p (fresh_cell (mixed_on controls.feedback o x))) h.cells h.pos
       ∙ cells_set done o (mixed_on controls.feedback o x) os
@@ -190,7 +190,7 @@ underway_more done o os x start reach controls l h room more =
       cells = cells_then done o os x start reach controls l h;
       pos = ap (λ b. next_place b l.deck.pos) h.forward ∙ omega (arith, pos, count);
       tape = omega (arith, tape, count);
-      some = let same = count_written l.deck.pos (cond (is_some l.stack.run) 0 2) v
+      some = let same = count_written l.deck.pos (cond (is_some l.stack.streak) 0 2) v
           l.stack.layers in let some = h.some in omega (arith, same, some);
       seams = refl;
       same = h.same;

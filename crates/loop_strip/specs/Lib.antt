@@ -3,7 +3,7 @@ pub mod Parts
 pub mod Moving
 pub mod Undoing
 pub mod Openings
-pub mod Running
+pub mod SoFar
 pub mod Carrying
 pub mod Advances
 pub mod Quiet

@@ -1,7 +1,7 @@
 -- When a loop is in a state for a move: closing and rounding want an open layer, another layer is
 -- begun where none is open, and in the direction that its verb allows; mode, place and direction
 -- change where a list is there and isn't written, the direction also in a mode that writes over its
--- list, where no run goes on.
+-- list, where no streak goes on.
 -- "Verbs" in docs/rules.md.
 use Rattle.std.specs.Prelude.{◌≡◌, ℕ, ⊤, Bool, true, false, List, [], ◌∷◌, Option, None}
 use Rattle.sl_commands.specs.declared.Verb.{Verb}
@@ -11,7 +11,7 @@ use Rattle.sl_commands.specs.declared.Mode.TheVariants.{WaitStart, Playing, Over
 use Rattle.looper_rules.specs.Stack.{LastWrite}
 use Rattle.looper_rules.specs.Loop.{Loop, is_writing}
 use Rattle.loop_states.specs.declared.act.Move.{Move}
-use Rattle.loop_states.specs.declared.act.Move.TheVariants.{LeaveWait, Close, Begin, Round, SetMode, ToStart, Turn, BreakRun, Undo, Redo, UndoAll, RedoAll}
+use Rattle.loop_states.specs.declared.act.Move.TheVariants.{LeaveWait, Close, Begin, Round, SetMode, ToStart, Turn, BreakStreak, Undo, Redo, UndoAll, RedoAll}
 use Rattle.loop_states.specs.Moves.{carry}
 
 -- a list is there, and isn't written
@@ -36,14 +36,14 @@ MayStart Rec mode backward = (is_writing mode ≡ false) × (mode ≡ WaitStart 
 MayStart verb mode backward = IsAtRest mode × MayBegin verb backward
 
 abbrev pub MayTurn : Mode → Option LastWrite → Type 0
-MayTurn Playing run = ⊤
-MayTurn Muted run = ⊤
-MayTurn OneShot run = ⊤
-MayTurn Paused run = ⊤
-MayTurn Overdubbing run = run ≡ None
-MayTurn Replacing run = run ≡ None
-MayTurn Substituting run = run ≡ None
-MayTurn _ run = ⊥
+MayTurn Playing streak = ⊤
+MayTurn Muted streak = ⊤
+MayTurn OneShot streak = ⊤
+MayTurn Paused streak = ⊤
+MayTurn Overdubbing streak = streak ≡ None
+MayTurn Replacing streak = streak ≡ None
+MayTurn Substituting streak = streak ≡ None
+MayTurn _ streak = ⊥
 
 -- the loop is in a state for the move
 abbrev pub IsAllowed : {A : Type 0} → Move → Loop A → Type 0
@@ -53,8 +53,8 @@ IsAllowed (Begin verb) l = MayStart verb l.deck.mode l.deck.backward
 IsAllowed Round l = is_writing l.deck.mode ≡ true
 IsAllowed (SetMode mode) l = IsAtRest mode × IsAtRest l.deck.mode
 IsAllowed ToStart l = IsAtRest l.deck.mode
-IsAllowed Turn l = MayTurn l.deck.mode l.stack.run
-IsAllowed BreakRun l = is_writing l.deck.mode ≡ true
+IsAllowed Turn l = MayTurn l.deck.mode l.stack.streak
+IsAllowed BreakStreak l = is_writing l.deck.mode ≡ true
 IsAllowed Undo l = ⊤
 IsAllowed Redo l = ⊤
 IsAllowed UndoAll l = ⊤

@@ -33,24 +33,6 @@ fn never_waits(verb: Verb) -> bool
     }
 }
 
-/// The mode is that of the verb.
-fn is_mode_of(verb: Verb, mode: Mode) -> bool
-    ensures { result ≡ is_mode_of verb mode }
-{
-    match (verb, mode) {
-        (Verb::Rec, Mode::Recording) => true,
-        (Verb::Overdub, Mode::Overdubbing) => true,
-        (Verb::Multiply, Mode::Multiplying) => true,
-        (Verb::Insert, Mode::Inserting) => true,
-        (Verb::Replace, Mode::Replacing) => true,
-        (Verb::Substitute, Mode::Substituting) => true,
-        (Verb::Mute, Mode::Muted) => true,
-        (Verb::Pause, Mode::Paused) => true,
-        (Verb::OneShot, Mode::OneShot) => true,
-        _ => false,
-    }
-}
-
 /// The press is of this verb.
 fn is_press_of(verb: Verb, press: Option<Held>) -> bool
     ensures { result ≡ is_press_of verb press }
@@ -198,7 +180,7 @@ impl Parts {
         ensures { result ≡ (is_long frame long_press self.now.deck.press
             && is_mode_of verb self.now.deck.mode) }
     {
-        is_long(frame, long_press, self.deck.press) && is_mode_of(verb, self.deck.mode)
+        is_long(frame, long_press, self.deck.press) && self.deck.mode.is_of(verb)
     }
 
     /// A verb let go, by whether the press is of this verb.

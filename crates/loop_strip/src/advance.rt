@@ -5,7 +5,7 @@ ghost use Rattle.std.specs.declared.option.Option.TheVariants.{None};
 ghost use Rattle.sl_base.specs.Limits.{max_list_frames};
 ghost use Rattle.sl_base.specs.Sounds.{Sound};
 ghost use Rattle.looper_rules.specs.Layers.{current_length, current_list};
-ghost use Rattle.looper_rules.specs.Stack.{run_broken};
+ghost use Rattle.looper_rules.specs.Stack.{streak_broken};
 ghost use Rattle.looper_rules.specs.Loop.{is_writing, length_of, base_length_of, cycle_of, at_place, in_mode_at, with_stack};
 ghost use Rattle.looper_rules.specs.LoopFrame.{stopped, wraps, wrapped_place, next_place, wrapped_mode, goes_on, stops_if, lengthens, advanced_in, advanced, overrun_in, after};
 ghost use Rattle.looper_rules.specs.Closing.{at_stop_in, at_stop};
@@ -14,7 +14,7 @@ ghost use Rattle.loop_strip.specs.Strips.{seen, Owns, Did, reach_in};
 ghost use Rattle.loop_strip.specs.Advances.{MayAdvance};
 ghost use Rattle.loop_strip.specs.Parts.{loop_of, strip_of, IsWhole};
 
-use crate::deck::{is_writing, rest};
+use crate::deck::rest;
 use crate::frame::how_in;
 use crate::parts::Parts;
 use loop_tape::Pool;
@@ -67,19 +67,19 @@ fn wrapped_mode(mode: Mode) -> Mode
 }
 
 impl Parts {
-    /// Breaks the run, where one may go on.
+    /// Breaks the streak, where one may go on.
     #[tactic(auto, using(crate::proofs::FrameLemmas::unbroken))]
-    fn break_any_run(&mut self)
+    fn break_any_streak(&mut self)
         requires coupled { self.old.layers.writing ≡ is_writing self.old.deck.mode }
-        requires still { is_writing self.old.deck.mode ≡ false → self.old.layers.stack.run ≡ None }
-        ensures ok { loop_of self.new ≡ with_stack (run_broken (loop_of self.old).stack)
+        requires still { is_writing self.old.deck.mode ≡ false → self.old.layers.stack.streak ≡ None }
+        ensures ok { loop_of self.new ≡ with_stack (streak_broken (loop_of self.old).stack)
             (loop_of self.old) }
         ensures tape { self.new.layers.tape ≡ self.old.layers.tape }
         ensures pinned { self.new.pinned ≡ self.old.pinned }
         ensures writing { self.new.layers.writing ≡ self.old.layers.writing }
     {
-        if is_writing(self.deck.mode) {
-            self.layers.break_run();
+        if self.deck.mode.is_writing() {
+            self.layers.break_streak();
         }
     }
 
@@ -89,14 +89,14 @@ impl Parts {
         requires place { self.old.deck.pos ≤ max_list_frames }
         requires length { length ≡ length_of (loop_of self.old) }
         requires coupled { self.old.layers.writing ≡ is_writing self.old.deck.mode }
-        requires still { is_writing self.old.deck.mode ≡ false → self.old.layers.stack.run ≡ None }
+        requires still { is_writing self.old.deck.mode ≡ false → self.old.layers.stack.streak ≡ None }
         ensures ok { loop_of self.new ≡ goes_on round (loop_of self.old) }
         ensures tape { self.new.layers.tape ≡ self.old.layers.tape }
         ensures pinned { self.new.pinned ≡ self.old.pinned }
         ensures writing { self.new.layers.writing ≡ is_writing self.new.deck.mode }
     {
         if round {
-            self.break_any_run();
+            self.break_any_streak();
             self.deck.mode = wrapped_mode(self.deck.mode);
             self.deck.pos = wrapped_place(self.deck.backward, length);
             self.layers.seek(self.deck.pos);
@@ -110,7 +110,7 @@ impl Parts {
     fn go_on(&mut self)
         requires place { self.old.deck.pos ≤ max_list_frames }
         requires coupled { self.old.layers.writing ≡ is_writing self.old.deck.mode }
-        requires still { is_writing self.old.deck.mode ≡ false → self.old.layers.stack.run ≡ None }
+        requires still { is_writing self.old.deck.mode ≡ false → self.old.layers.stack.streak ≡ None }
         ensures ok { loop_of self.new ≡ goes_on
             (wraps self.old.deck.backward self.old.deck.pos (length_of (loop_of self.old)))
             (loop_of self.old) }
@@ -175,7 +175,7 @@ impl Parts {
         requires is { self.old.deck.mode ≡ mode }
         requires ready { MayAdvance mode self.old.deck.pos (length_of (loop_of self.old)) }
         requires coupled { self.old.layers.writing ≡ is_writing mode }
-        requires still { is_writing mode ≡ false → self.old.layers.stack.run ≡ None }
+        requires still { is_writing mode ≡ false → self.old.layers.stack.streak ≡ None }
         ensures ok { loop_of self.new ≡ advanced_in mode (loop_of self.old) }
         ensures tape { self.new.layers.tape ≡ self.old.layers.tape }
         ensures pinned { self.new.pinned ≡ self.old.pinned }

@@ -1,7 +1,7 @@
 //! What a loop is doing, and what is set of it.
 
 ghost use Rattle.std.specs.Prelude.{◌≡◌, ◌%◌, ◌-◌, if◌then◌else◌};
-ghost use Rattle.looper_rules.specs.Loop.{is_writing, new_deck};
+ghost use Rattle.looper_rules.specs.Loop.{new_deck};
 ghost use Rattle.looper_rules.specs.Run.{controls_of as set_by};
 ghost use Rattle.sl_commands.specs.declared.Mode.TheVariants.{Off};
 ghost use Rattle.looper_rules.specs.Closing.{closed_deck};
@@ -69,21 +69,6 @@ impl Controls {
             quantize: settings.quantize,
             rec_thresh: settings.rec_thresh,
         }
-    }
-}
-
-/// A frame of the input is written in this mode.
-pub(crate) fn is_writing(mode: Mode) -> bool
-    ensures { result ≡ is_writing mode }
-{
-    match mode {
-        Mode::Recording => true,
-        Mode::Overdubbing => true,
-        Mode::Multiplying => true,
-        Mode::Inserting => true,
-        Mode::Replacing => true,
-        Mode::Substituting => true,
-        _ => false,
     }
 }
 

@@ -16,7 +16,7 @@ ghost use Rattle.layer_memory.specs.Seen.{seen as seen_layers};
 ghost use Rattle.loop_strip.specs.Strips.{seen, Owns, Did, reach_in};
 ghost use Rattle.loop_strip.specs.Parts.{loop_of, strip_of, IsWhole};
 
-use crate::deck::{is_writing, rest};
+use crate::deck::rest;
 use crate::parts::Parts;
 use loop_tape::Pool;
 use sl_base::{Frame, clamp24, scale};

@@ -5,7 +5,7 @@ ghost use Rattle.looper_rules.specs.Loop.{is_writing, with_stack};
 ghost use Rattle.looper_rules.specs.History.{undone, settled, closed_if, with_fewer, stepped_back, undo, undo_all, undo_each, redone, with_more, redo_from, redo, redo_all, redo_each};
 ghost use Rattle.loop_strip.specs.Parts.{loop_of, IsWhole};
 
-use crate::deck::{is_writing, rest};
+use crate::deck::rest;
 use crate::parts::Parts;
 use sl_commands::Mode;
 
@@ -18,7 +18,7 @@ impl Parts {
         ensures closed { self.new.layers.writing ≡ false }
         ensures whole { IsWhole self.new }
     {
-        if is_writing(self.deck.mode) {
+        if self.deck.mode.is_writing() {
             self.close();
         }
     }

@@ -45,7 +45,7 @@ pub fn a_recording_is_what_was_played(
     ensures owns { Owns strip.new pool.new }
 {
     strip.give(pool, Press::Hit, Verb::Rec, frame, long_press);
-    strip.run(pool, input, heard);
+    strip.play(pool, input, heard);
     strip.give(pool, Press::Hit, Verb::Rec, frame, long_press);
 }
 
@@ -79,7 +79,7 @@ pub fn an_overdub_of_one_turn_is_on_top(
     ensures owns { Owns strip.new pool.new }
 {
     strip.give(pool, Press::Hit, Verb::Overdub, frame, long_press);
-    strip.run(pool, input, heard);
+    strip.play(pool, input, heard);
     strip.give(pool, Press::Hit, Verb::Overdub, frame, long_press);
 }
 
@@ -107,7 +107,7 @@ pub fn undo_takes_an_overdub_back(
     ensures owns { Owns strip.new pool.new }
 {
     strip.give(pool, Press::Hit, Verb::Overdub, frame, long_press);
-    strip.run(pool, input, heard);
+    strip.play(pool, input, heard);
     strip.give(pool, Press::Hit, Verb::Undo, frame, long_press);
 }
 

@@ -6,7 +6,7 @@
 //! - After each call the strip still owns its chunks, reaches as many as before, and every other
 //!   strip of the pool is as it was (`OthersStay`).
 //! - A new loop may begin with a list (`load`), and `settings` is what a save tells of it.
-//! - `give` gives a verb, `boundary_act` lets the waiting one act, `run` plays any number of frames
+//! - `give` gives a verb, `boundary_act` lets the waiting one act, `play` has any number of frames pass
 //!   one after another.
 //! - `quiet` and `quiet_over` tell for how many frames only the first can take a chunk, open or
 //!   close a layer, be refused or change the mode. So spans of several loops may be played one loop
@@ -14,7 +14,7 @@
 //! - Only `Strip::new` takes memory. What is refused for want of room, layers or seams is counted,
 //!   as the rules say.
 //!
-//! Begin with `strip`; `acting` has verbs and presses, `run` and `frame` one frame step by step,
+//! Begin with `strip`; `acting` has verbs and presses, `play` and `frame` one frame step by step,
 //! `stretches` frames in spans, `quiet` how long a loop is quiet, `laws` what holds of several
 //! calls. The rules are "The loop" to "Frames in a row" in docs/rules.md.
 #![tactic(auto)]
@@ -34,7 +34,7 @@ mod parts;
 mod press;
 mod quiet;
 mod rows;
-mod run;
+mod play;
 mod saving;
 mod stretches;
 mod strip;

@@ -2,7 +2,7 @@
 
 ghost use Rattle.std.specs.Prelude.{◌≡◌, ℕ, ◌≤◌, ◌<◌, ◌==◌, true, false, not, length, drop, IsTrue};
 ghost use Rattle.sl_commands.specs.declared.Mode.TheVariants.{WaitStart};
-ghost use Rattle.looper_rules.specs.Stack.{run_broken};
+ghost use Rattle.looper_rules.specs.Stack.{streak_broken};
 ghost use Rattle.looper_rules.specs.Loop.{is_writing, in_mode, turned, rounds, with_stack, refused_once};
 ghost use Rattle.looper_rules.specs.Opening.{opening};
 ghost use Rattle.looper_rules.specs.Starting.{leaves_wait, starts_record, starts, records, layers_on};
@@ -97,7 +97,7 @@ impl Parts {
     #[tactic(auto, using(crate::proofs::MoveLemmas::whole_turned))]
     fn turn(&mut self)
         requires whole { IsWhole self.old }
-        requires turns { MayTurn self.old.deck.mode self.old.layers.stack.run }
+        requires turns { MayTurn self.old.deck.mode self.old.layers.stack.streak }
         ensures ok { loop_of self.new ≡ turned (loop_of self.old) }
         ensures tape { self.new.layers.tape ≡ self.old.layers.tape }
         ensures whole { IsWhole self.new }
@@ -105,17 +105,17 @@ impl Parts {
         self.deck.backward = !self.deck.backward;
     }
 
-    /// No run goes on.
+    /// No streak goes on.
     #[tactic(auto, using(crate::proofs::MoveLemmas::whole_broken))]
-    fn break_run(&mut self)
+    fn break_streak(&mut self)
         requires whole { IsWhole self.old }
         requires writing { is_writing self.old.deck.mode ≡ true }
-        ensures ok { loop_of self.new ≡ with_stack (run_broken (loop_of self.old).stack)
+        ensures ok { loop_of self.new ≡ with_stack (streak_broken (loop_of self.old).stack)
             (loop_of self.old) }
         ensures tape { self.new.layers.tape ≡ self.old.layers.tape }
         ensures whole { IsWhole self.new }
     {
-        self.layers.break_run();
+        self.layers.break_streak();
     }
 
     /// A move that opens no layer.
@@ -135,7 +135,7 @@ impl Parts {
             Move::SetMode(mode) => self.set_mode(mode),
             Move::ToStart => self.go_to_start(),
             Move::Turn => self.turn(),
-            Move::BreakRun => self.break_run(),
+            Move::BreakStreak => self.break_streak(),
             Move::Undo => self.undo(),
             Move::Redo => self.redo(),
             Move::UndoAll => self.undo_all(),

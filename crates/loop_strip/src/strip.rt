@@ -108,14 +108,14 @@ impl Strip {
 
     /// Plays these frames one after another: `input` is taken in, and what is heard of the loop is
     /// written to `heard`.
-    pub fn run(&mut self, pool: &mut Pool, input: &[Frame], heard: &mut [Frame])
+    pub fn play(&mut self, pool: &mut Pool, input: &[Frame], heard: &mut [Frame])
         requires owns { Owns self.old pool.old }
         requires same_length { length input.now ≡ length heard.old }
         ensures did { Did (loop_over input.now) self.old self.new pool.old pool.new }
         ensures heard { heard.new ≡ loop_heard_over input.now (reach_in self.old pool.old)
             (seen self.old pool.old) }
     {
-        self.parts.run(pool, input, heard);
+        self.parts.play(pool, input, heard);
     }
 
     /// What is seen of the loop.

@@ -36,7 +36,7 @@ fn hears_frame(strip: &mut Strip, pool: &mut Pool, input: Frame, sound: Frame) -
 {
     let frames = [input];
     let mut heard = [Frame::silence()];
-    strip.run(pool, &frames[..], &mut heard[..]);
+    strip.play(pool, &frames[..], &mut heard[..]);
     let sounds = &heard[..];
     sounds[0] == sound
 }
@@ -183,7 +183,7 @@ fn hears_all(strip: &mut Strip, pool: &mut Pool, samples: &[i16; 8]) -> bool
 {
     let frames = [Frame::silence(); 8];
     let mut heard = [Frame::silence(); 8];
-    strip.run(pool, &frames[..], &mut heard[..]);
+    strip.play(pool, &frames[..], &mut heard[..]);
     are_samples(&heard[..], &samples[..])
 }
 

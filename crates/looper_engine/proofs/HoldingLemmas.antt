@@ -13,7 +13,7 @@ use Rattle.looper_rules.specs.Looper.{Track, Looper}
 use Rattle.looper_rules.specs.Pins.{pin_on}
 use Rattle.looper_rules.specs.Saves.{Save}
 use Rattle.looper_rules.specs.Unanswered.{Hold, hold_on, holds_of, list_in, HoldsLoop, IsHeld}
-use Rattle.looper_lanes.specs.Loopers.{held_on}
+use Rattle.whole_looper.specs.Loopers.{held_on}
 use Rattle.looper_engine.specs.declared.queue.Pending.{Pending}
 use Rattle.looper_engine.specs.Holding.{pinned_on, lists_for, held_save, held_saves}
 

@@ -18,7 +18,7 @@ use Rattle.save_parts.specs.declared.step.Step.TheVariants.{Head, Part, End}
 use Rattle.save_parts.specs.Steps.{part_count, part_step, step_behind, step_at}
 use Rattle.frame_stamp.specs.Journals.{JournalOf}
 use Rattle.engine_steps.specs.Engines.{EngineOf}
-use Rattle.looper_lanes.specs.Loopers.{held_on, pinned_at}
+use Rattle.whole_looper.specs.Loopers.{held_on, pinned_at}
 use Rattle.looper_engine.specs.declared.queue.Pending.{Pending}
 use Rattle.looper_engine.specs.Queues.{QueueOf}
 use Rattle.looper_engine.specs.Holding.{pinned_on, lists_for, held_saves, CanRead, ReadsPart, Reads}

@@ -14,7 +14,7 @@ use Rattle.looper_rules.specs.Stack.{pinned_list}
 use Rattle.looper_rules.specs.Looper.{Track, Looper}
 use Rattle.looper_rules.specs.Saves.{Save}
 use Rattle.looper_rules.specs.Pins.{pin_on}
-use Rattle.looper_lanes.specs.Loopers.{pinned_at}
+use Rattle.whole_looper.specs.Loopers.{pinned_at}
 use Rattle.looper_engine.specs.declared.queue.Pending.{Pending}
 
 -- the list that the pin of a track holds

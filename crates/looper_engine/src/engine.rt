@@ -10,7 +10,7 @@ ghost use Rattle.looper_rules.specs.Reached.{AreLists, IsBeginning, KeepsLooper}
 ghost use Rattle.frame_stamp.specs.Journals.{HasRoom, next_seq};
 ghost use Rattle.engine_steps.specs.Engines.{Beginning, first_engine, entry_of, ClearsSent, took, went_on, put_out, left, next_block, due_target, block_sent};
 ghost use Rattle.engine_steps.specs.InStep.{IsInStep, SoFar, nothing, with_taken, with_frames, with_block};
-ghost use Rattle.looper_lanes.specs.Loopers.{refused_in};
+ghost use Rattle.whole_looper.specs.Loopers.{refused_in};
 ghost use Rattle.looper_rules.specs.Unanswered.{holds_of, HoldPins};
 ghost use Rattle.looper_engine.specs.declared.setup.EngineFault.TheVariants.{Limit};
 ghost use Rattle.looper_engine.specs.Queues.{empty_queue};
@@ -22,7 +22,7 @@ use crate::saving::{block_at, block_total, seek_block};
 use crate::setup::{EngineFault, Setup};
 use crate::taking::{asked_by, made_save, released_by};
 use frame_stamp::Journal;
-use looper_lanes::{Lanes, Refused};
+use whole_looper::{Looper, Refused};
 use sl_base::Frame;
 use sl_commands::{Block, Command, Initial, MIDI, OSC, Reply, Target};
 use std::alloc::Global;
@@ -31,7 +31,7 @@ use std::marker::Model;
 /// A looper with its journal and the saves that no release has answered.
 #[derive(Drop)]
 pub struct Engine {
-    lanes: Lanes,
+    looper: Looper,
     journal: Journal,
     frames_done: u64,
     queue: Queue,
@@ -43,9 +43,9 @@ impl Model for Engine {
 
     ghost Value = { EngineOf };
 
-    ghost view = { λ e. engine_of e.lanes e.journal e.frames_done e.queue };
+    ghost view = { λ e. engine_of e.looper e.journal e.frames_done e.queue };
 
-    ghost invariant = { λ e. IsEngine (engine_of e.lanes e.journal e.frames_done e.queue) };
+    ghost invariant = { λ e. IsEngine (engine_of e.looper e.journal e.frames_done e.queue) };
 }
 
 impl Engine {
@@ -64,22 +64,22 @@ impl Engine {
             (setup.now.chunks < used (map length initial.now)) }
     {
         let _loops = setup.loops();
-        match Lanes::new(alloc, &setup.settings, setup.chunks, initial.as_slice()) {
+        match Looper::new(alloc, &setup.settings, setup.chunks, initial.as_slice()) {
             Err(Refused::Limit) => Err(EngineFault::Limit),
             Err(Refused::Memory) => Err(EngineFault::Memory),
-            Ok(lanes) => Engine::over(alloc, lanes, setup.quota),
+            Ok(looper) => Engine::over(alloc, looper, setup.quota),
         }
     }
 
-    /// An engine over these lanes, before all frames and entries.
-    fn over(alloc: Global, lanes: Lanes, quota: u32) -> Result<Engine, EngineFault>
-        requires kept { KeepsLooper 0 lanes }
-        requires free { HoldPins [] (holds_of lanes) }
-        requires none { lanes.saves ≡ 0 }
+    /// An engine over this looper, before all frames and entries.
+    fn over(alloc: Global, looper: Looper, quota: u32) -> Result<Engine, EngineFault>
+        requires kept { KeepsLooper 0 looper }
+        requires free { HoldPins [] (holds_of looper) }
+        requires none { looper.saves ≡ 0 }
         requires some { 1 ≤ quota }
         requires quota { quota ≤ max_quota }
         ensures value { IfOk result
-            (λ e. e ≡ engine_of lanes (record { entries = []; quota = quota }) 0 empty_queue) }
+            (λ e. e ≡ engine_of looper (record { entries = []; quota = quota }) 0 empty_queue) }
         ensures limit { result ≢ Err Limit }
     {
         match Journal::with_quota(alloc, quota) {
@@ -87,7 +87,7 @@ impl Engine {
             Ok(journal) => match Queue::new(alloc) {
                 Err(_) => Err(EngineFault::Memory),
                 Ok(queue) => Ok(Engine {
-                    lanes,
+                    looper,
                     journal,
                     frames_done: 0,
                     queue,
@@ -118,10 +118,10 @@ impl Engine {
             s) self.new }
     {
         self.check_saves();
-        let asked = asked_by(&self.lanes, &command);
-        let released = released_by(&self.lanes, sender, &command);
+        let asked = asked_by(&self.looper, &command);
+        let released = released_by(&self.looper, sender, &command);
         let seq = self.journal.count(sender);
-        let applied = self.lanes.apply(self.frames_done, sender, seq, &command);
+        let applied = self.looper.apply(self.frames_done, sender, seq, &command);
         self.queue.settle(released);
         self.queue.join(made_save(applied.made_save, asked));
         self.journal.stamp(self.frames_done, sender, command);
@@ -137,7 +137,7 @@ impl Engine {
         ensures in_step { (b : Beginning) → (s : SoFar) → IsInStep b s self.old →
             IsInStep b (with_frames input.now output.new s) self.new }
     {
-        self.lanes.frames(self.frames_done, input, output);
+        self.looper.frames(self.frames_done, input, output);
         self.frames_done += input.len() as u64;
     }
 
@@ -151,7 +151,7 @@ impl Engine {
         if sending.is_empty() {
             return None;
         }
-        Some(block_at(&self.lanes, &sending[0], self.queue.part()))
+        Some(block_at(&self.looper, &sending[0], self.queue.part()))
     }
 
     /// The block that `next_block` gave was sent.
@@ -162,8 +162,8 @@ impl Engine {
             IsInStep b (with_block (next_block self.old) s) self.new }
     {
         let target = self.queue.sending()[0].target;
-        let total = block_total(&self.lanes, target);
-        seek_block(&mut self.lanes, target, self.queue.part() + 1);
+        let total = block_total(&self.looper, target);
+        seek_block(&mut self.looper, target, self.queue.part() + 1);
         self.queue.block_sent(total);
     }
 
@@ -202,7 +202,7 @@ impl Engine {
     pub fn refused(&self) -> u64
         ensures { result ≡ refused_in self.now.looper }
     {
-        self.lanes.refused()
+        self.looper.refused()
     }
 
     /// How many saves were made so far.
@@ -211,14 +211,14 @@ impl Engine {
         ensures within { result ≤ next_seq 0 self.now.journal.entries
             + next_seq 1 self.now.journal.entries }
     {
-        self.lanes.saves()
+        self.looper.saves()
     }
 
     /// How many loops there are, 1 to 16.
     pub fn loops(&self) -> u8
         ensures { result ≡ length self.now.looper.tracks }
     {
-        self.lanes.loops()
+        self.looper.loops()
     }
 
     /// The journal alone.

@@ -5,77 +5,77 @@ ghost use Rattle.sl_base.specs.Limits.{max_loops};
 ghost use Rattle.sl_commands.specs.Blocks.{first_index};
 ghost use Rattle.save_parts.specs.Steps.{block_count, step_at, block_of};
 ghost use Rattle.save_parts.specs.declared.step.Step.TheVariants.{Head};
-ghost use Rattle.looper_lanes.specs.Loopers.{pinned_at};
+ghost use Rattle.whole_looper.specs.Loopers.{pinned_at};
 ghost use Rattle.looper_engine.specs.Holding.{lists_for, pinned_on, CanRead, Reads};
 
 use crate::queue::Pending;
 use arrayvec::ArrayVec;
-use looper_lanes::Lanes;
+use whole_looper::Looper;
 use save_parts::{Step, block_count, step_at};
 use sl_base::Frame;
 use sl_commands::{Block, PartFrames, Target};
 
 /// The lengths of the lists that the pins hold for a save with this target.
-fn lengths_for(lanes: &Lanes, target: Target) -> ArrayVec<u32, 16>
-    requires { CanRead target lanes.now }
-    ensures value { result.items ≡ map length (lists_for target lanes.now) }
+fn lengths_for(looper: &Looper, target: Target) -> ArrayVec<u32, 16>
+    requires { CanRead target looper.now }
+    ensures value { result.items ≡ map length (lists_for target looper.now) }
     ensures few { length result.items ≤ max_loops }
 {
     match target {
-        Target::One(index) => one_length(lanes, index),
-        _ => all_lengths(lanes),
+        Target::One(index) => one_length(looper, index),
+        _ => all_lengths(looper),
     }
 }
 
 /// The length of one pinned list.
-fn one_length(lanes: &Lanes, index: u8) -> ArrayVec<u32, 16>
-    requires { index < length lanes.now.tracks }
-    ensures { result.items ≡ length (pinned_at index lanes.now) ∷ [] }
+fn one_length(looper: &Looper, index: u8) -> ArrayVec<u32, 16>
+    requires { index < length looper.now.tracks }
+    ensures { result.items ≡ length (pinned_at index looper.now) ∷ [] }
 {
     let mut lengths = ArrayVec::new();
-    lengths.push(lanes.pinned_length(index));
+    lengths.push(looper.pinned_length(index));
     lengths
 }
 
 /// The lengths of all pinned lists.
-fn all_lengths(lanes: &Lanes) -> ArrayVec<u32, 16>
-    ensures { result.items ≡ map length (map pinned_on lanes.now.tracks) }
+fn all_lengths(looper: &Looper) -> ArrayVec<u32, 16>
+    ensures { result.items ≡ map length (map pinned_on looper.now.tracks) }
 {
     let mut lengths = ArrayVec::new();
-    for index in 0..lanes.loops() {
-        lengths.push(lanes.pinned_length(index));
+    for index in 0..looper.loops() {
+        lengths.push(looper.pinned_length(index));
     }
     lengths
 }
 
 /// How many blocks a save with this target has.
-pub(crate) fn block_total(lanes: &Lanes, target: Target) -> u32
-    requires { CanRead target lanes.now }
-    ensures { result ≡ block_count (map length (lists_for target lanes.now)) }
+pub(crate) fn block_total(looper: &Looper, target: Target) -> u32
+    requires { CanRead target looper.now }
+    ensures { result ≡ block_count (map length (lists_for target looper.now)) }
 {
-    let lengths = lengths_for(lanes, target);
+    let lengths = lengths_for(looper, target);
     block_count(lengths.as_slice())
 }
 
 /// What the block of this number is, of a save with this target.
-fn step_for(lanes: &Lanes, target: Target, block: u32) -> Step
-    requires { CanRead target lanes.now }
-    ensures value { result ≡ step_at (map length (lists_for target lanes.now)) block }
-    ensures reads { Reads target lanes.now result }
+fn step_for(looper: &Looper, target: Target, block: u32) -> Step
+    requires { CanRead target looper.now }
+    ensures value { result ≡ step_at (map length (lists_for target looper.now)) block }
+    ensures reads { Reads target looper.now result }
 {
-    let lengths = lengths_for(lanes, target);
+    let lengths = lengths_for(looper, target);
     step_at(lengths.as_slice(), block)
 }
 
 /// So many frames of a pinned list from a place on.
-fn frames_at(lanes: &Lanes, index: u8, place: u32, count: u32) -> PartFrames
-    requires index { index < length lanes.now.tracks }
+fn frames_at(looper: &Looper, index: u8, place: u32, count: u32) -> PartFrames
+    requires index { index < length looper.now.tracks }
     requires few { count ≤ 256 }
-    requires within { place + count ≤ length (pinned_at index lanes.now) }
-    ensures { result ≡ take count (drop place (pinned_at index lanes.now)) }
+    requires within { place + count ≤ length (pinned_at index looper.now) }
+    ensures { result ≡ take count (drop place (pinned_at index looper.now)) }
 {
     let mut span = [Frame::silence(); 256];
-    lanes.saved_span(index, place, &mut span[..count as usize]);
+    looper.saved_span(index, place, &mut span[..count as usize]);
     part_of(&span[..count as usize])
 }
 
@@ -105,10 +105,10 @@ fn head_of(pending: &Pending) -> Block
 }
 
 /// The block that this step of a save is.
-fn block_of(lanes: &Lanes, pending: &Pending, step: Step) -> Block
-    requires { Reads pending.now.target lanes.now step }
+fn block_of(looper: &Looper, pending: &Pending, step: Step) -> Block
+    requires { Reads pending.now.target looper.now step }
     ensures { result ≡ block_of step pending.now.number pending.now.name pending.now.target
-        pending.now.settings (lists_for pending.now.target lanes.now) }
+        pending.now.settings (lists_for pending.now.target looper.now) }
 {
     match step {
         Step::Head => head_of(pending),
@@ -117,7 +117,7 @@ fn block_of(lanes: &Lanes, pending: &Pending, step: Step) -> Block
             Block::Part {
                 save: pending.number,
                 index,
-                frames: frames_at(lanes, index, place, count),
+                frames: frames_at(looper, index, place, count),
             }
         }
         Step::End => Block::End {
@@ -127,24 +127,24 @@ fn block_of(lanes: &Lanes, pending: &Pending, step: Step) -> Block
 }
 
 /// The block of this number of a save.
-pub(crate) fn block_at(lanes: &Lanes, pending: &Pending, block: u32) -> Block
-    requires { CanRead pending.now.target lanes.now }
+pub(crate) fn block_at(looper: &Looper, pending: &Pending, block: u32) -> Block
+    requires { CanRead pending.now.target looper.now }
     ensures { result ≡ block_of
-        (step_at (map length (lists_for pending.now.target lanes.now)) block) pending.now.number
+        (step_at (map length (lists_for pending.now.target looper.now)) block) pending.now.number
         pending.now.name pending.now.target pending.now.settings
-        (lists_for pending.now.target lanes.now) }
+        (lists_for pending.now.target looper.now) }
 {
-    block_of(lanes, pending, step_for(lanes, pending.target, block))
+    block_of(looper, pending, step_for(looper, pending.target, block))
 }
 
 /// Where the block of this number is a part, its frames are looked up here once, and `block_at`
 /// searches nothing.
-pub(crate) fn seek_block(lanes: &mut Lanes, target: Target, block: u32)
-    requires { CanRead target lanes.old }
-    ensures { lanes.new ≡ lanes.old }
+pub(crate) fn seek_block(looper: &mut Looper, target: Target, block: u32)
+    requires { CanRead target looper.old }
+    ensures { looper.new ≡ looper.old }
 {
-    match step_for(lanes, target, block) {
-        Step::Part { list, place, .. } => lanes.seek_saved(target.first_index() + list as u8, place),
+    match step_for(looper, target, block) {
+        Step::Part { list, place, .. } => looper.seek_saved(target.first_index() + list as u8, place),
         _ => {}
     }
 }

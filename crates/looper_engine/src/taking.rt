@@ -1,20 +1,20 @@
 //! What a command asks of the saves that wait.
 
 ghost use Rattle.std.specs.Prelude.{◌≡◌, length, None, if◌then◌else◌};
-ghost use Rattle.looper_lanes.specs.Loopers.{IsReached};
+ghost use Rattle.whole_looper.specs.Loopers.{IsReached};
 ghost use Rattle.sl_commands.specs.declared.Target.TheVariants.{One};
 ghost use Rattle.looper_rules.specs.Looper.{index_of};
 ghost use Rattle.looper_engine.specs.Queues.{asked_by, target_in, released_by};
 
 use crate::queue::Pending;
-use looper_lanes::Lanes;
+use whole_looper::Looper;
 use sl_base::Name;
 use sl_commands::{Command, Settings, Target, is_sender};
 
 /// A save with these settings, which comes behind those that were made.
-fn pending(lanes: &Lanes, target: Target, name: &Name, settings: Settings) -> Pending
+fn pending(looper: &Looper, target: Target, name: &Name, settings: Settings) -> Pending
     ensures { result ≡ record {
-      number = lanes.now.saves;
+      number = looper.now.saves;
       target = target;
       name =
           name.now;
@@ -22,7 +22,7 @@ fn pending(lanes: &Lanes, target: Target, name: &Name, settings: Settings) -> Pe
     } }
 {
     Pending {
-        number: lanes.saves(),
+        number: looper.saves(),
         target,
         name: name.duplicate(),
         settings,
@@ -40,19 +40,19 @@ fn saved_target(target: Target, selected: u8) -> Target
 }
 
 /// The save for which this command asks, without its lists.
-pub(crate) fn asked_by(lanes: &Lanes, command: &Command) -> Option<Pending>
-    requires reached { IsReached lanes.now }
-    ensures { result ≡ asked_by command.now lanes.now }
+pub(crate) fn asked_by(looper: &Looper, command: &Command) -> Option<Pending>
+    requires reached { IsReached looper.now }
+    ensures { result ≡ asked_by command.now looper.now }
 {
     match command {
         Command::SaveLoop(target, name) => {
-            let settings = lanes.settings();
+            let settings = looper.settings();
             let one = saved_target(*target, settings.globals.selected_loop_num);
-            Some(pending(lanes, one, name, settings))
+            Some(pending(looper, one, name, settings))
         }
         Command::SaveSession(name) => {
-            let settings = lanes.settings();
-            Some(pending(lanes, Target::All, name, settings))
+            let settings = looper.settings();
+            Some(pending(looper, Target::All, name, settings))
         }
         _ => None,
     }
@@ -69,10 +69,10 @@ fn target_in(command: &Command) -> Option<Target>
 }
 
 /// The target that this command of this sender releases, where it is valid.
-pub(crate) fn released_by(lanes: &Lanes, sender: u8, command: &Command) -> Option<Target>
-    ensures { result ≡ released_by sender command.now (length lanes.now.tracks) }
+pub(crate) fn released_by(looper: &Looper, sender: u8, command: &Command) -> Option<Target>
+    ensures { result ≡ released_by sender command.now (length looper.now.tracks) }
 {
-    if is_sender(sender, command) && command.is_allowed(lanes.loops()) {
+    if is_sender(sender, command) && command.is_allowed(looper.loops()) {
         target_in(command)
     } else {
         None

@@ -1,5 +1,5 @@
 -- Closing the open layer clears its fresh marks, takes its base away, and sets its end to the tape
--- length. No run goes on and rounding ends. Then
+-- length. No streak goes on and rounding ends. Then
 -- - in Recording with length 0 the layer is removed, pos is 0, and the mode is Off, or Playing
 --   where a layer is left;
 -- - in Recording otherwise the cycle is the length, pos is 0 and the mode Playing (a layer that
@@ -44,11 +44,11 @@ finished_layer cut tape l = closed_layer (cut_cells cut l.cells) tape l
 
 -- the stack with its open layer closed
 abbrev pub finished : {A : Type 0} → Option ℕ → Stack A → Stack A
-finished cut s = record s { layers = with_current (finished_layer cut s.tape) s.layers; run = None }
+finished cut s = record s { layers = with_current (finished_layer cut s.tape) s.layers; streak = None }
 
 -- the stack with its open layer removed
 abbrev pub dropped : {A : Type 0} → Stack A → Stack A
-dropped s = record s { layers = without_current s.layers; run = None }
+dropped s = record s { layers = without_current s.layers; streak = None }
 
 -- the deck of a loop that has closed its layer
 abbrev pub closed_deck : Mode → ℕ → Deck → Deck

@@ -9,12 +9,13 @@
 use Rattle.std.specs.Prelude.{ℕ, ◌+◌, min, Bool, true, false, not, length, Option, None, is_some}
 use Rattle.sl_commands.specs.declared.Verb.{Verb}
 use Rattle.sl_commands.specs.declared.Mode.{Mode}
-use Rattle.sl_commands.specs.declared.Mode.TheVariants.{Off, Recording, Overdubbing, Multiplying, Inserting, Replacing, Substituting}
+use Rattle.sl_commands.specs.declared.Mode.TheVariants.{Off}
 use Rattle.sl_commands.specs.declared.Held.{Held}
 use Rattle.sl_commands.specs.declared.Face.{Face}
 use Rattle.sl_base.specs.Limits.{max_value}
 use Rattle.looper_rules.specs.Layers.{current_length, current_base_length, current_cycle}
 use Rattle.looper_rules.specs.Stack.{Stack}
+pub use Rattle.sl_commands.specs.Modes.{is_writing}
 
 -- what a loop is doing
 pub record Deck : Type 0 where
@@ -44,16 +45,6 @@ pub record Loop (A : Type 0) : Type 0 where
 abbrev pub is_off : Mode → Bool
 is_off Off = true
 is_off _ = false
-
--- whether a frame of the input is written in this mode
-abbrev pub is_writing : Mode → Bool
-is_writing Recording = true
-is_writing Overdubbing = true
-is_writing Multiplying = true
-is_writing Inserting = true
-is_writing Replacing = true
-is_writing Substituting = true
-is_writing _ = false
 
 -- the length of a loop's list
 abbrev pub length_of : {A : Type 0} → Loop A → ℕ

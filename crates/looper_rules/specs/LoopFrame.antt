@@ -13,7 +13,7 @@
 -- - The loop advances. In Recording pos is the length. In Inserting and Multiplying pos rises by
 --   one, and while rounding the layer closes at its stop. In Playing, Overdubbing, Replacing,
 --   Substituting, Muted and OneShot pos goes one on in its direction, and round at the list's
---   border: then no run goes on, and OneShot becomes Muted.
+--   border: then no streak goes on, and OneShot becomes Muted.
 --   Off, WaitStart and Paused don't advance.
 -- "One frame of a loop" in docs/rules.md.
 use Rattle.std.specs.Prelude.{ℕ, ◌+◌, ◌-◌, Bool, true, false, List, slice_index_or, nat_le, ◌==◌, if◌then◌else◌}
@@ -25,7 +25,7 @@ use Rattle.sl_commands.specs.declared.How.TheVariants.{Forward, Backward, Insert
 use Rattle.sl_commands.specs.declared.Started.{Started}
 use Rattle.sl_commands.specs.declared.Started.TheVariants.{Ok}
 use Rattle.looper_rules.specs.Layers.{current_list}
-use Rattle.looper_rules.specs.Stack.{Stack, run_broken}
+use Rattle.looper_rules.specs.Stack.{Stack, streak_broken}
 use Rattle.looper_rules.specs.Opening.{opening}
 use Rattle.looper_rules.specs.Writing.{write_fits, written, extension_fits, extended}
 use Rattle.looper_rules.specs.Loop.{Loop, is_writing, length_of, at_place, in_mode_at, refused_once, with_stack}
@@ -128,7 +128,7 @@ wrapped_mode mode = mode
 -- the loop one place on, by whether it wraps around
 abbrev pub goes_on : {A : Type 0} → Bool → Loop A → Loop A
 goes_on true l =
-    with_stack (run_broken l.stack)
+    with_stack (streak_broken l.stack)
     (in_mode_at (wrapped_mode l.deck.mode) (wrapped_place l.deck.backward (length_of l)) l)
 goes_on false l = at_place (next_place l.deck.backward l.deck.pos) l
 

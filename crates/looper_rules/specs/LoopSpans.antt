@@ -1,5 +1,4 @@
 -- Frames of one loop in a row, which reaches the same number of chunks at each.
--- A frame leaves alone what is set of the loop, the verb that waits, the press and the pin.
 -- A frame is quiet where neither the loop behind it nor its own sound depends on what the loop
 -- reaches, it takes no chunk, and the mode stays and the face goes on: so no layer is opened or
 -- closed, nothing is refused, and OneShot doesn't end.
@@ -21,13 +20,6 @@ abbrev pub loop_heard_over : List Sound → ℕ → Loop Sound → List Sound
 loop_heard_over [] reach l = []
 loop_heard_over (x ∷ xs) reach l =
     heard (ready x reach l) ∷ loop_heard_over xs reach (frame_later x reach l)
-
--- what a frame leaves alone
-pub record IsLeftAlone {A : Type 0} (old new : Loop A) : Type 0 where
-  pub controls : new.controls ≡ old.controls
-  pub waiting : new.deck.waiting ≡ old.deck.waiting
-  pub press : new.deck.press ≡ old.deck.press
-  pub pin : new.stack.pin ≡ old.stack.pin
 
 -- a quiet frame
 pub record IsQuietFrame (x : Sound) (l : Loop Sound) : Type 0 where

@@ -1,7 +1,7 @@
 -- What a cell holds is left open, so a stack of one kind becomes one of another where each content
 -- is given another: where layers share a tape, a stack of addresses becomes one of the frames at
 -- these addresses.
--- Numbers, fresh marks, the pin's tape length and the run stay.
+-- Numbers, fresh marks, the pin's tape length and the streak stay.
 -- "Layers" in docs/rules.md.
 use Rattle.std.specs.Prelude.{List, map, Option, Some, None}
 use Rattle.looper_rules.specs.Layers.{Cell, Layer}
@@ -36,5 +36,5 @@ stack_map f s =
       redo = map (layer_map f) s.redo;
       tape = s.tape;
       pin = pin_map f s.pin;
-      run = s.run;
+      streak = s.streak;
     }

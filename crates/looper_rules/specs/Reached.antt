@@ -14,9 +14,9 @@ use Rattle.sl_commands.specs.declared.StripSettings.{StripSettings}
 use Rattle.sl_commands.specs.Settings.{LooperSettings, are_settings}
 use Rattle.looper_rules.specs.Room.{chunks_of, used}
 use Rattle.looper_rules.specs.Loop.{Controls, Loop}
-use Rattle.looper_rules.specs.Looper.{Track, Looper, tape_of}
+use Rattle.looper_rules.specs.Looper.{Looper}
 use Rattle.looper_rules.specs.Pins.{SessionIsWhole}
-use Rattle.looper_rules.specs.States.{IsLoop, IsTrack, IsLooper}
+use Rattle.looper_rules.specs.States.{IsLoop, IsLooper}
 
 -- what verbs and frames leave as it is: the chunks in reach, whether a pin stands, the controls and
 -- the press
@@ -46,21 +46,6 @@ IsLayering _ backward = ⊥
 -- what is done to a loop that reaches so many chunks keeps it
 abbrev pub KeepsLoops : (ℕ → Loop Sound → Loop Sound) → Type 0
 KeepsLoops act = (a : Unchanged) (l : Loop Sound) → Keeps a l → Keeps a (act a.reach l)
-
--- what verbs and frames leave unchanged of a track that reaches so many chunks: a pin stands where
--- someone asked for a save
-abbrev pub unchanged_of : ℕ → Track → Unchanged
-unchanged_of reach t = record {
-  reach = reach;
-  pinned = is_some t.asker;
-  controls = t.loop.controls;
-  press = t.loop.deck.press;
-}
-
--- what a track keeps that reaches so many chunks, when so many frames are done
-pub record KeepsTrack (reach frame : ℕ) (t : Track) : Type 0 where
-  pub track : IsTrack frame t
-  pub within : chunks_of (tape_of t) ≤ reach
 
 -- what a looper keeps, when so many frames are done
 pub record KeepsLooper (frame : ℕ) (l : Looper) : Type 0 where

@@ -53,7 +53,7 @@ loaded_stack list cycle =
       redo = [];
       tape = length list;
       pin = None;
-      run = None;
+      streak = None;
     }
 
 -- a stack with a layer of this list more, whose frames stand on the tape behind what it has
@@ -63,7 +63,7 @@ loaded list cycle s =
     in record s {
       layers = loaded_layer list cycle tape ∷ s.layers;
       tape = tape;
-      run = None;
+      streak = None;
     }
 
 -- a loop that begins with this list

@@ -1,6 +1,6 @@
 -- A save of a loop is answered 2 where a pin stands on it, and else 3 where its list is empty.
 -- Otherwise the list is saved, and the loop is pinned: the pin holds the list and the tape length,
--- all fresh marks are cleared, and no run goes on. The answer comes with the release.
+-- all fresh marks are cleared, and no streak goes on. The answer comes with the release.
 -- A save of a session is answered 2 where a pin stands on any loop. Otherwise all loops are pinned,
 -- empty ones too, and all lists are saved. Each save has a number, counted from 0, its target, its
 -- name, the settings and the lists at that moment. In the settings a loop in Recording has its
@@ -38,7 +38,7 @@ pinned s =
     record s {
       layers = with_current unmarked_layer s.layers;
       pin = Some (record { tape = s.tape; list = current_list s.layers });
-      run = None;
+      streak = None;
     }
 
 -- the stack without its pin

@@ -7,7 +7,7 @@
 -- WaitStart without a layer.
 -- In Recording pos is the length and the cycle is 0. The base of an open layer isn't longer than
 -- its list, and in another writing mode than Recording it isn't empty. In Recording, Multiplying
--- and Inserting the direction is forward. A run goes on in a writing mode alone, and then the next
+-- and Inserting the direction is forward. A streak goes on in a writing mode alone, and then the next
 -- write is the one that continues it.
 -- Layers and redo layers together are at most 256, with at most 65536 seams; each end and the pin
 -- are at most the tape length. No layer ends before the one below it, and the redo layers, in the
@@ -107,22 +107,22 @@ IsBehind Backward place pos = place ≡ pos + 1
 IsBehind Insert place pos = pos ≡ place + 1
 IsBehind Append place pos = pos ≡ place + 1
 
--- the last write of a run is the one before the next in this mode, at this pos and in this
+-- the last write of a streak is the one before the next in this mode, at this pos and in this
 -- direction
 abbrev pub GoesOn : Option LastWrite → Mode → ℕ → Bool → Type 0
 GoesOn None mode pos backward = ⊤
 GoesOn (Some last) mode pos backward = (last.how ≡ how_in mode backward)
     × IsBehind last.how last.place pos
 
--- a run goes on in a writing mode alone, as its last write says
-abbrev pub IsRun : Mode → Option LastWrite → ℕ → Bool → Type 0
-IsRun Recording run pos backward = GoesOn run Recording pos backward
-IsRun Overdubbing run pos backward = GoesOn run Overdubbing pos backward
-IsRun Multiplying run pos backward = GoesOn run Multiplying pos backward
-IsRun Inserting run pos backward = GoesOn run Inserting pos backward
-IsRun Replacing run pos backward = GoesOn run Replacing pos backward
-IsRun Substituting run pos backward = GoesOn run Substituting pos backward
-IsRun _ run pos backward = run ≡ None
+-- a streak goes on in a writing mode alone, as its last write says
+abbrev pub IsStreak : Mode → Option LastWrite → ℕ → Bool → Type 0
+IsStreak Recording streak pos backward = GoesOn streak Recording pos backward
+IsStreak Overdubbing streak pos backward = GoesOn streak Overdubbing pos backward
+IsStreak Multiplying streak pos backward = GoesOn streak Multiplying pos backward
+IsStreak Inserting streak pos backward = GoesOn streak Inserting pos backward
+IsStreak Replacing streak pos backward = GoesOn streak Replacing pos backward
+IsStreak Substituting streak pos backward = GoesOn streak Substituting pos backward
+IsStreak _ streak pos backward = streak ≡ None
 
 -- each of these layers has at most 16777216 frames, and its end is at most the tape length
 abbrev pub AreWithin : {A : Type 0} → ℕ → List (Layer A) → Type 0
@@ -152,7 +152,7 @@ pub record IsStack {A : Type 0} (s : Stack A) : Type 0 where
 -- what always holds of a loop
 pub record IsLoop {A : Type 0} (l : Loop A) : Type 0 where
   pub in_mode : InMode l.deck.mode l.stack.layers l.stack.redo l.deck.pos l.deck.backward
-  pub run : IsRun l.deck.mode l.stack.run l.deck.pos l.deck.backward
+  pub streak : IsStreak l.deck.mode l.stack.streak l.deck.pos l.deck.backward
   pub stack : IsStack l.stack
   pub refused : l.refused ≤ max_value
 

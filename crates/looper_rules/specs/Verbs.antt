@@ -19,7 +19,7 @@
 -- Where closing has made the mode Off, nothing more is done. The start is 0 forward and the length
 -- less 1 backward. A multiply or insert ends by closing where round is 0, where it is rounding
 -- already, or at its stop; else it rounds. A reverse in Recording, Multiplying and Inserting closes
--- and then turns; in another writing mode it turns, and no run goes on. In WaitStart `record` only
+-- and then turns; in another writing mode it turns, and no streak goes on. In WaitStart `record` only
 -- leaves it. Every other verb leaves it first, and then acts from the new mode.
 -- "Verbs" in docs/rules.md.
 use Rattle.std.specs.Prelude.{ℕ, ◌-◌, Bool, true, false, ◌||◌, ◌==◌, if◌then◌else◌}
@@ -27,7 +27,8 @@ use Rattle.sl_commands.specs.declared.Verb.{Verb}
 use Rattle.sl_commands.specs.declared.Verb.TheVariants.{Rec, Overdub, Multiply, Insert, Replace, Substitute, Mute, MuteOn, MuteOff, OneShot, Trigger, Reverse, Pause, Undo, Redo, UndoAll, RedoAll}
 use Rattle.sl_commands.specs.declared.Mode.{Mode}
 use Rattle.sl_commands.specs.declared.Mode.TheVariants.{Off, WaitStart, Recording, Playing, Overdubbing, Multiplying, Inserting, Replacing, Muted, OneShot as PlayingOnce, Substituting, Paused}
-use Rattle.looper_rules.specs.Stack.{run_broken}
+pub use Rattle.sl_commands.specs.Modes.{is_mode_of}
+use Rattle.looper_rules.specs.Stack.{streak_broken}
 use Rattle.looper_rules.specs.Loop.{Loop, is_off, is_writing, length_of, in_mode, in_mode_at, turned, rounds, with_stack}
 use Rattle.looper_rules.specs.Closing.{closed, at_stop}
 use Rattle.looper_rules.specs.Starting.{starts_record, starts, leaves_wait}
@@ -39,19 +40,6 @@ pub data Column : Type 0 where
   InItsOwn : Column
   InAnother : Column
   Elsewhere : Column
-
--- whether a mode is the one of a verb, where the verb has one
-abbrev pub is_mode_of : Verb → Mode → Bool
-is_mode_of Rec Recording = true
-is_mode_of Overdub Overdubbing = true
-is_mode_of Multiply Multiplying = true
-is_mode_of Insert Inserting = true
-is_mode_of Replace Replacing = true
-is_mode_of Substitute Substituting = true
-is_mode_of Mute Muted = true
-is_mode_of Pause Paused = true
-is_mode_of OneShot PlayingOnce = true
-is_mode_of _ _ = false
 
 -- the column for a verb in a mode
 abbrev pub column : Verb → Mode → Column
@@ -101,7 +89,7 @@ abbrev pub reversed_in : {A : Type 0} → Mode → Loop A → Loop A
 reversed_in Recording l = closes_then turned l
 reversed_in Multiplying l = closes_then turned l
 reversed_in Inserting l = closes_then turned l
-reversed_in _ l = turned (with_stack (run_broken l.stack) l)
+reversed_in _ l = turned (with_stack (streak_broken l.stack) l)
 
 -- the row of `record`
 abbrev pub record_row : {A : Type 0} → Column → ℕ → Loop A → Loop A

@@ -158,12 +158,12 @@ recorded_layer list end seams =
       seams = seams;
     }
 
--- layers, redo layers and tape length, with no pin and no run
+-- layers, redo layers and tape length, with no pin and no streak
 abbrev pub stack : List (Layer Sound) → List (Layer Sound) → ℕ → Stack Sound
 stack layers redo tape =
-    record { layers = layers; redo = redo; tape = tape; pin = None; run = None }
+    record { layers = layers; redo = redo; tape = tape; pin = None; streak = None }
 
--- the last write of a run
+-- the last write of a streak
 abbrev pub last_write : ℕ → How → Option LastWrite
 last_write place how = Some (record { place = place; how = how })
 

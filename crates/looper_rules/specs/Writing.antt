@@ -1,8 +1,8 @@
 -- A write puts one frame over the one at a place, before it, or at the end of the open layer's
 -- list.
--- Over a fresh cell it keeps the tape length and ends the run, and it always fits.
+-- Over a fresh cell it keeps the tape length and ends the streak, and it always fits.
 -- Every other write makes a new cell: it adds one to the tape length, leaves the cell fresh, adds 2
--- seams where no run goes on, and then a run goes on. It fits where the loop has room, and a run
+-- seams where no streak goes on, and then a streak goes on. It fits where the loop has room, and a streak
 -- goes on or the total seams are at most 65534, and, before a place or at the end, the list has
 -- fewer than 16777216 frames.
 -- Extending appends the base, not fresh, and adds its seams. It fits where the list then has at
@@ -31,7 +31,7 @@ meets_fresh how place s = overwrites how && is_fresh (slice_get (current_cells s
 abbrev pub new_cell_fits : {A : Type 0} → ℕ → How → Stack A → Bool
 new_cell_fits reach how s =
     has_room reach s.tape
-    && (is_some s.run || nat_le (total_seams s.layers) (max_seams - 2))
+    && (is_some s.streak || nat_le (total_seams s.layers) (max_seams - 2))
     && (overwrites how || nat_lt (current_length s.layers) max_list_frames)
 
 -- whether a write fits
@@ -56,15 +56,15 @@ with_written how place a seams l =
 -- the stack after a write over a fresh cell
 abbrev pub rewritten : {A : Type 0} → How → ℕ → A → Stack A → Stack A
 rewritten how place a s =
-    record s { layers = with_current (with_written how place a 0) s.layers; run = None }
+    record s { layers = with_current (with_written how place a 0) s.layers; streak = None }
 
 -- the stack after a write that makes a new cell
 abbrev pub newly_written : {A : Type 0} → How → ℕ → A → Stack A → Stack A
 newly_written how place a s =
     record s {
-      layers = with_current (with_written how place a (if is_some s.run then 0 else 2)) s.layers;
+      layers = with_current (with_written how place a (if is_some s.streak then 0 else 2)) s.layers;
       tape = s.tape + 1;
-      run = Some (record { place = place; how = how });
+      streak = Some (record { place = place; how = how });
     }
 
 -- the stack after a write that fits

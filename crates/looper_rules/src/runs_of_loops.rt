@@ -50,7 +50,7 @@ pub fn a_save_holds_its_list()
         let take = saved 0 0 (codes "take.wav") settings phrase in
         let recording = loop_in Recording 5
         (record (stack (recorded_layer (samples (0 ∷ 0 ∷ 0 ∷ 0 ∷ 0 ∷ [])) 4 2 ∷ []) [] 9)
-        { run = last_write 4 Append }) in
+        { streak = last_write 4 Append }) in
         one_loop_run
         ((0, hit 0 Rec) ∷ (4, hit 0 Rec) ∷ (8, SaveLoop (One 0) (codes "take.wav"))
         ∷ (9, hit 0 Undo) ∷ (9, hit 0 Rec) ∷ (10, SaveLoop (One 0) (codes "other.wav"))
@@ -88,7 +88,7 @@ pub fn the_last_chunk_goes_to_the_first_loop()
         let taken = open_layer (fresh_cells (samples (1 ∷ 2 ∷ 3 ∷ 4 ∷ []))
         ++ old_cells (replicate 4090 silence)) below 4094 4 in
         let writing = loop_in Overdubbing 4
-        (record (stack (taken ∷ below ∷ []) [] 4098) { run = last_write 3 Forward }) in
+        (record (stack (taken ∷ below ∷ []) [] 4098) { streak = last_write 3 Forward }) in
         let refused = layer (samples (1 ∷ 2 ∷ []) ++ replicate 4092 silence) 4094 4096 4 in
         let playing = record (loop_in Playing 4 (stack (refused ∷ below ∷ []) [] 4096))
         { refused = 1 } in

@@ -7,7 +7,7 @@ use Rattle.looper_rules.specs.Looper.{Track}
 use Rattle.looper_rules.specs.FacesLater.{is_boundary_behind}
 use Rattle.looper_laws.specs.Spans.{NoBoundaryWithin, IsClearFor}
 use Rattle.loop_tape.specs.Pools.{PoolOf}
-use Rattle.looper_tracks.specs.Lanes.{LaneOf, track_in, tracks_in}
+use Rattle.looper_tracks.specs.Track.{TrackOf, track_in, tracks_in}
 use Rattle.looper_tracks.proofs.ReadLemmas.{all_more}
 
 -- fewer frames are as clear
@@ -44,9 +44,9 @@ clear_fewer_all g frame faces count fewer (t ∷ ts) le all = (
   clear_fewer_all g frame faces count fewer ts le all.1,
 )
 
--- one lane more
-pub clear_more : (g : Globals) (frame : ℕ) (faces : List Face) (n q m k : ℕ) (ls : List LaneOf)
-    (l : LaneOf) (p : PoolOf) → k < length ls → l ≡ get_or ls k l → m ≤ n → m ≤ q →
+-- one track more
+pub clear_more : (g : Globals) (frame : ℕ) (faces : List Face) (n q m k : ℕ) (ls : List TrackOf)
+    (l : TrackOf) (p : PoolOf) → k < length ls → l ≡ get_or ls k l → m ≤ n → m ≤ q →
     AllByRecursion (IsClearFor g frame faces (n - 1)) (tracks_in p (take k ls)) →
     IsClearFor g frame faces (q - 1) (track_in p l) →
     AllByRecursion (IsClearFor g frame faces (m - 1)) (tracks_in p (take (k + 1) ls))

@@ -1,4 +1,4 @@
-pub mod LaneLemmas
+pub mod TrackLemmas
 pub mod StepLemmas
 pub mod SweepLemmas
 pub mod SumLemmas

@@ -1,4 +1,4 @@
--- New lanes, and lists that are laid on their tapes.
+-- New tracks, and lists that are laid on their tapes.
 use Rattle.std.proofs.Common.{◌≡◌, ℕ, zero, suc, ◌+◌, ◌<◌, ◌≤◌, Bool, true, false, ◌&&◌, List, [], ◌∷◌, length, map, set, get_or, take, drop, nat_le, length-take, length-set, refl, sym, ap, ap₂, ◌∙◌, subst, arith}
 use Rattle.std.specs.Prelude.{◌==◌}
 use Rattle.std.specs.List.{AllByRecursion}
@@ -14,26 +14,26 @@ use Rattle.looper_rules.specs.Run.{first_track, first_tracks}
 use Rattle.looper_rules.specs.Reached.{AreLists}
 use Rattle.loop_tape.specs.Pools.{PoolOf}
 use Rattle.loop_strip.specs.Strips.{seen, free_in, reach_in, Owns}
-use Rattle.looper_tracks.specs.Lanes.{LaneOf, track_in, tracks_in, OwnsLane, LanesApart, AreApart, AreIn, DidLane, all_in}
+use Rattle.looper_tracks.specs.Track.{TrackOf, track_in, tracks_in, OwnsTrack, TracksApart, AreApart, AreIn, DidTrack, all_in}
 use Rattle.loop_strip.specs.Loading.{loads}
-use Rattle.looper_tracks.specs.Beginnings.{new_lane, MayLoad, HaveLoaded}
-use Rattle.looper_tracks.proofs.LaneLemmas.{owned, turned, did_nothing}
+use Rattle.looper_tracks.specs.Beginnings.{new_track, MayLoad, HaveLoaded}
+use Rattle.looper_tracks.proofs.TrackLemmas.{owned, turned, did_nothing}
 use Rattle.looper_tracks.proofs.SweepLemmas.{rest_on}
 
--- the tracks of new lanes
-new_track : (chunks : ℕ) (s : StripSettings) (p : PoolOf) →
-    track_in p (new_lane chunks s) ≡ first_track [] s
+-- a new track is a first track of the rules
+track_in-new_track : (chunks : ℕ) (s : StripSettings) (p : PoolOf) →
+    track_in p (new_track chunks s) ≡ first_track [] s
 unfolding seen
-new_track chunks s p = refl
+track_in-new_track chunks s p = refl
 
-new_tracks : (chunks : ℕ) (ss : List StripSettings) (p : PoolOf) →
-    tracks_in p (map (new_lane chunks) ss) ≡ first_tracks ss []
-new_tracks chunks [] p = refl
-new_tracks chunks (s ∷ ss) p = ap₂ (λ t ts. t ∷ ts) (new_track chunks s p) (new_tracks chunks ss p)
+tracks_in-track_in-new_track : (chunks : ℕ) (ss : List StripSettings) (p : PoolOf) →
+    tracks_in p (map (new_track chunks) ss) ≡ first_tracks ss []
+tracks_in-track_in-new_track chunks [] p = refl
+tracks_in-track_in-new_track chunks (s ∷ ss) p = ap₂ (λ t ts. t ∷ ts) (track_in-new_track chunks s p) (tracks_in-track_in-new_track chunks ss p)
 
--- new lanes own no chunks
+-- new tracks own no chunks
 new_owns : (chunks : ℕ) (s : StripSettings) (p : PoolOf) → p.all ≤ chunks →
-    Owns (new_lane chunks s).strip p
+    Owns (new_track chunks s).strip p
 new_owns chunks s p fits = record {
   tape = record {
     inside = λ i less. absurd (omega arith);
@@ -47,25 +47,25 @@ new_owns chunks s p fits = record {
 }
 
 new_own : (chunks : ℕ) (ss : List StripSettings) (p : PoolOf) → p.all ≤ chunks →
-    AllByRecursion (OwnsLane p) (map (new_lane chunks) ss)
+    AllByRecursion (OwnsTrack p) (map (new_track chunks) ss)
 new_own chunks [] p fits = tt
 new_own chunks (s ∷ ss) p fits =
     (record { owns = new_owns chunks s p fits }, new_own chunks ss p fits)
 
-new_beside : (chunks : ℕ) (l : LaneOf) (ss : List StripSettings) →
-    AllByRecursion (LanesApart l) (map (new_lane chunks) ss)
+new_beside : (chunks : ℕ) (l : TrackOf) (ss : List StripSettings) →
+    AllByRecursion (TracksApart l) (map (new_track chunks) ss)
 new_beside chunks l [] = tt
 new_beside chunks l (s ∷ ss) = (
   record { apart = record { tapes = λ i j less other same. absurd (omega arith) } },
   new_beside chunks l ss,
 )
 
-new_apart : (chunks : ℕ) (ss : List StripSettings) → AreApart (map (new_lane chunks) ss)
+new_apart : (chunks : ℕ) (ss : List StripSettings) → AreApart (map (new_track chunks) ss)
 new_apart chunks [] = tt
-new_apart chunks (s ∷ ss) = (new_beside chunks (new_lane chunks s) ss, new_apart chunks ss)
+new_apart chunks (s ∷ ss) = (new_beside chunks (new_track chunks s) ss, new_apart chunks ss)
 
 pub new_in : (chunks : ℕ) (ss : List StripSettings) (p : PoolOf) → p.all ≤ chunks →
-    AreIn p (map (new_lane chunks) ss)
+    AreIn p (map (new_track chunks) ss)
 new_in chunks ss p fits = record { own = new_own chunks ss p fits; apart = new_apart chunks ss }
 
 -- what the tapes of first tracks use
@@ -160,32 +160,32 @@ used_take (list ∷ lists) (suc k) ds less =
     in let taken = used-cons (length list) (map length (take k lists))
     in omega arith
 
--- the lane of an index behind those that were changed
-lane_of : {X : Type 0} (f : X → LaneOf) (ls : List LaneOf) (ss : List X) (k : ℕ) (d : LaneOf)
+-- the track of an index behind those that were changed
+track_of : {X : Type 0} (f : X → TrackOf) (ls : List TrackOf) (ss : List X) (k : ℕ) (d : TrackOf)
     (ds : X) → drop k ls ≡ drop k (map f ss) → k < length ss → length ls ≡ length ss →
     get_or ls k d ≡ f (get_or ss k ds)
-lane_of f [] [] k d ds same less count = absurd (omega arith)
-lane_of f [] (s ∷ ss) k d ds same less count = absurd (omega arith)
-lane_of f (l ∷ ls) [] k d ds same less count = absurd (omega arith)
-lane_of f (l ∷ ls) (s ∷ ss) zero d ds same less count = ap (λ xs. get_or xs 0 l) same
-lane_of f (l ∷ ls) (s ∷ ss) (suc k) d ds same less count =
-    lane_of f ls ss k d ds same (omega arith) (omega arith)
+track_of f [] [] k d ds same less count = absurd (omega arith)
+track_of f [] (s ∷ ss) k d ds same less count = absurd (omega arith)
+track_of f (l ∷ ls) [] k d ds same less count = absurd (omega arith)
+track_of f (l ∷ ls) (s ∷ ss) zero d ds same less count = ap (λ xs. get_or xs 0 l) same
+track_of f (l ∷ ls) (s ∷ ss) (suc k) d ds same less count =
+    track_of f ls ss k d ds same (omega arith) (omega arith)
 
--- so many lists were laid, and the lanes behind are new
+-- so many lists were laid, and the tracks behind are new
 pub record Loading (ss : List StripSettings) (lists : List (List Sound)) (chunks all : ℕ)
-    (ls : List LaneOf) (p : PoolOf) (k : ℕ) : Type 0 where
+    (ls : List TrackOf) (p : PoolOf) (k : ℕ) : Type 0 where
   pub tracks : tracks_in p ls ≡ first_tracks ss (take k lists)
-  pub rest : drop k ls ≡ drop k (map (new_lane chunks) ss)
+  pub rest : drop k ls ≡ drop k (map (new_track chunks) ss)
   pub inside : AreIn p ls
   pub sum : all_in p ls ≡ all
   pub count : length ls ≡ length ss
 
 pub loading_none : (ss : List StripSettings) (lists : List (List Sound)) (room chunks : ℕ)
-    (ls : List LaneOf) (p : PoolOf) → ls ≡ map (new_lane room) ss → p.all ≤ room →
+    (ls : List TrackOf) (p : PoolOf) → ls ≡ map (new_track room) ss → p.all ≤ room →
     free_in p ≡ chunks →
     Loading ss lists room chunks ls p 0
 loading_none ss lists room chunks ls p is fits all =
-    let tracks : tracks_in p ls ≡ first_tracks ss [] = ap (tracks_in p) is ∙ new_tracks room ss p
+    let tracks : tracks_in p ls ≡ first_tracks ss [] = ap (tracks_in p) is ∙ tracks_in-track_in-new_track room ss p
     in let none : used (map tape_of (tracks_in p ls)) ≡ 0 = ap (λ ts. used (map tape_of ts)) tracks
     ∙ no_tapes ss
     in record {
@@ -196,9 +196,9 @@ loading_none ss lists room chunks ls p is fits all =
       count = ap length is ∙ simp length-map refl;
     }
 
--- the lane of this index may begin with its list
+-- the track of this index may begin with its list
 pub may_load : (ss : List StripSettings) (lists : List (List Sound)) (room chunks : ℕ)
-    (ls : List LaneOf) (p : PoolOf) (k : ℕ) (d : LaneOf) (ds : List Sound) (s : StripSettings) →
+    (ls : List TrackOf) (p : PoolOf) (k : ℕ) (d : TrackOf) (ds : List Sound) (s : StripSettings) →
     are_strips ss ≡ true → AreLists ss lists → used (map length lists) ≤ chunks → k < length lists →
     Loading ss lists room chunks ls p k →
     MayLoad (get_or ss k s) (get_or lists k ds) room (get_or ls k d) p
@@ -212,7 +212,7 @@ may_load ss lists room chunks ls p k d ds s valid are fits less h =
     in let needs = used_take lists k ds less
     in let all = h.sum
     in record {
-      lane = lane_of (new_lane room) ls ss k d s h.rest less_ss h.count;
+      track = track_of (new_track room) ls ss k d s h.rest less_ss h.count;
       owns = owned ls k d p h.inside (let same = h.count in omega arith);
       valid = (list_at ss lists k ds s valid are less).valid;
       long = (list_at ss lists k ds s valid are less).length_is;
@@ -221,10 +221,10 @@ may_load ss lists room chunks ls p k d ds s valid are fits less h =
 
 -- one list more was laid
 pub loading_more : (ss : List StripSettings) (lists : List (List Sound)) (room chunks : ℕ)
-    (ls : List LaneOf) (p p' : PoolOf) (k : ℕ) (d l' : LaneOf) (ds : List Sound)
+    (ls : List TrackOf) (p p' : PoolOf) (k : ℕ) (d l' : TrackOf) (ds : List Sound)
     (s : StripSettings) →
     AreLists ss lists → k < length lists → Loading ss lists room chunks ls p k →
-    DidLane (λ reach t. first_track (get_or lists k ds) (get_or ss k s)) (get_or ls k d) l' p
+    DidTrack (λ reach t. first_track (get_or lists k ds) (get_or ss k s)) (get_or ls k d) l' p
     p' →
     Loading ss lists room chunks (set ls k l') p' (k + 1)
 loading_more ss lists room chunks ls p p' k d l' ds s are less h did =
@@ -241,14 +241,14 @@ loading_more ss lists room chunks ls p p' k d l' ds s are less h did =
           ∙ first_set ss lists k ds s less fewer
           ∙ ap (λ n. first_tracks ss (take n lists)) at;
       rest = drop-set-lt (k + 1) ls k l' (omega arith)
-          ∙ rest_on ls (map (new_lane room) ss) k h.rest;
+          ∙ rest_on ls (map (new_track room) ss) k h.rest;
       inside = now.inside;
       sum = now.chunks ∙ h.sum;
       count = simp length-set h.count;
     }
 
 pub loading_all : (ss : List StripSettings) (lists : List (List Sound)) (room chunks : ℕ)
-    (ls : List LaneOf) (p : PoolOf) (k : ℕ) → length lists ≤ k →
+    (ls : List TrackOf) (p : PoolOf) (k : ℕ) → length lists ≤ k →
     Loading ss lists room chunks ls p k → HaveLoaded ss lists chunks ls p
 loading_all ss lists room chunks ls p k past h = record {
   tracks = h.tracks ∙ ap (first_tracks ss) (take_all k lists past);
@@ -257,19 +257,19 @@ loading_all ss lists room chunks ls p k past h = record {
   count = h.count;
 }
 
--- a new lane that begins with its list is its first track
+-- a new track that begins with its list is its first track
 loaded_track : (chunks : ℕ) (s : StripSettings) (list : List Sound) (reach : ℕ) (p : PoolOf) →
     1 ≤ length list →
-    on_loop (loads list s.cycle) reach (track_in p (new_lane chunks s)) ≡ first_track list s
+    on_loop (loads list s.cycle) reach (track_in p (new_track chunks s)) ≡ first_track list s
 unfolding seen
 loaded_track chunks s [] reach p some = absurd (omega arith)
 loaded_track chunks s (x ∷ xs) reach p some = refl
 
-pub lane_begun : (chunks : ℕ) (s : StripSettings) (list : List Sound) (l l' : LaneOf)
-    (p p' : PoolOf) → l ≡ new_lane chunks s → 1 ≤ length list →
-    DidLane (on_loop (loads list s.cycle)) l l' p p' →
-    DidLane (λ reach t. first_track list s) l l' p p'
-lane_begun chunks s list l l' p p' is some did = record {
+pub track_begun : (chunks : ℕ) (s : StripSettings) (list : List Sound) (l l' : TrackOf)
+    (p p' : PoolOf) → l ≡ new_track chunks s → 1 ≤ length list →
+    DidTrack (on_loop (loads list s.cycle)) l l' p p' →
+    DidTrack (λ reach t. first_track list s) l l' p p'
+track_begun chunks s list l l' p p' is some did = record {
   track = did.track ∙ ap (λ u. on_loop (loads list s.cycle) (reach_in l.strip p) (track_in p u)) is
       ∙ loaded_track chunks s list (reach_in l.strip p) p some;
   owns = did.owns;
@@ -277,12 +277,12 @@ lane_begun chunks s list l l' p p' is some did = record {
   others = did.others;
 }
 
-pub lane_without : (chunks : ℕ) (s : StripSettings) (list : List Sound) (l : LaneOf) (p : PoolOf) →
-    MayLoad s list chunks l p → length list ≡ 0 → DidLane (λ reach t. first_track list s) l l p p
-lane_without chunks s (x ∷ xs) l p may none = absurd (omega arith)
-lane_without chunks s [] l p may none =
+pub track_without : (chunks : ℕ) (s : StripSettings) (list : List Sound) (l : TrackOf) (p : PoolOf) →
+    MayLoad s list chunks l p → length list ≡ 0 → DidTrack (λ reach t. first_track list s) l l p p
+track_without chunks s (x ∷ xs) l p may none = absurd (omega arith)
+track_without chunks s [] l p may none =
     did_nothing (λ reach t. first_track [] s) l p may.owns
-    (sym (ap (track_in p) may.lane ∙ new_track chunks s p))
+    (sym (ap (track_in p) may.track ∙ track_in-new_track chunks s p))
 
 -- what a strip asks of a list
 pub cycles : (s : StripSettings) (list : List Sound) → is_strip s ≡ true → s.length ≡ length list →
@@ -324,17 +324,17 @@ used_more lists k ds less = let at : suc k ≡ k + 1 = omega arith
 
 -- the same of a list that is shown
 pub may_as : (lists : List (List Sound)) (list shown : List Sound) (k : ℕ) (s : StripSettings)
-    (room : ℕ) (l : LaneOf) {p : PoolOf} → list ≡ get_or lists k list → shown ≡ list →
+    (room : ℕ) (l : TrackOf) {p : PoolOf} → list ≡ get_or lists k list → shown ≡ list →
     MayLoad s (get_or lists k list) room l p → MayLoad s shown room l p
 may_as lists list shown k s room l {p} is same may =
     subst (λ zs. MayLoad s zs room l p) (sym is ∙ sym same) may
 
 pub did_as : (lists : List (List Sound)) (list shown : List Sound) (k : ℕ) (s : StripSettings)
-    (l l' : LaneOf) (p : PoolOf) {p' : PoolOf} → list ≡ get_or lists k list → shown ≡ list →
-    DidLane (λ reach t. first_track shown s) l l' p p' →
-    DidLane (λ reach t. first_track (get_or lists k list) s) l l' p p'
+    (l l' : TrackOf) (p : PoolOf) {p' : PoolOf} → list ≡ get_or lists k list → shown ≡ list →
+    DidTrack (λ reach t. first_track shown s) l l' p p' →
+    DidTrack (λ reach t. first_track (get_or lists k list) s) l l' p p'
 did_as lists list shown k s l l' p {p'} is same did =
-    subst (λ zs. DidLane (λ reach t. first_track zs s) l l' p p') (same ∙ is) did
+    subst (λ zs. DidTrack (λ reach t. first_track zs s) l l' p p') (same ∙ is) did
 
 pub short_at : (ss : List StripSettings) (lists : List (List Sound)) (list : List Sound) (k n : ℕ) →
     are_strips ss ≡ true → AreLists ss lists → k < length lists → list ≡ get_or lists k list →

@@ -1,4 +1,4 @@
--- What is read lane by lane.
+-- What is read track by track.
 use Rattle.std.proofs.Common.{◌≡◌, ℕ, zero, suc, ◌+◌, ◌<◌, ◌≤◌, Bool, true, false, ◌||◌, List, [], ◌∷◌, length, take, drop, get_or, Option, Some, None, is_some, refl, sym, ap, ◌∙◌, subst, arith}
 use Rattle.std.specs.Prelude.{slice_get}
 use Rattle.std.specs.List.{AllByRecursion}
@@ -13,16 +13,16 @@ use Rattle.looper_rules.specs.Saves.{is_pinned, any_pinned, session_asker, asker
 use Rattle.loop_tape.specs.Pools.{PoolOf}
 use Rattle.loop_tape.specs.Tapes.{at}
 use Rattle.loop_strip.specs.Strips.{StripOf, seen}
-use Rattle.looper_tracks.specs.Lanes.{LaneOf, track_in, tracks_in}
+use Rattle.looper_tracks.specs.Track.{TrackOf, track_in, tracks_in}
 use Rattle.looper_tracks.specs.Tracks.{IsFreeAt, IsFreeOn}
 
--- the lanes from an index on begin with the lane there
-pub opened : (ls : List LaneOf) (k : ℕ) (l : LaneOf) → k < length ls → l ≡ get_or ls k l →
+-- the tracks from an index on begin with the track there
+pub opened : (ls : List TrackOf) (k : ℕ) (l : TrackOf) → k < length ls → l ≡ get_or ls k l →
     drop k ls ≡ l ∷ drop (k + 1) ls
 opened ls k l less is = drop_more ls k l less ∙ ap (λ u. u ∷ drop (k + 1) ls) (sym is)
 
--- what holds of the lanes before an index and of the lane there
-one_more : (P : Track → Type 0) (k : ℕ) (ls : List LaneOf) (l : LaneOf) (p : PoolOf) →
+-- what holds of the tracks before an index and of the track there
+one_more : (P : Track → Type 0) (k : ℕ) (ls : List TrackOf) (l : TrackOf) (p : PoolOf) →
     k < length ls → l ≡ get_or ls k l →
     AllByRecursion P (tracks_in p (take k ls)) → P (track_in p l) →
     AllByRecursion P (tracks_in p (take (suc k) ls))
@@ -31,7 +31,7 @@ one_more P zero (x ∷ ls) l p less is all here = (subst (λ y. P (track_in p y)
 one_more P (suc k) (x ∷ ls) l p less is all here =
     (all.0, one_more P k ls l p (omega arith) is all.1 here)
 
-pub all_more : (P : Track → Type 0) (k : ℕ) (ls : List LaneOf) (l : LaneOf) (p : PoolOf) →
+pub all_more : (P : Track → Type 0) (k : ℕ) (ls : List TrackOf) (l : TrackOf) (p : PoolOf) →
     k < length ls → l ≡ get_or ls k l →
     AllByRecursion P (tracks_in p (take k ls)) → P (track_in p l) →
     AllByRecursion P (tracks_in p (take (k + 1) ls))
@@ -40,13 +40,13 @@ all_more P k ls l p less is all here =
     in subst (λ j. AllByRecursion P (tracks_in p (take j ls))) at
     (one_more P k ls l p less is all here)
 
-pub all_read : (P : Track → Type 0) (k : ℕ) (ls : List LaneOf) (p : PoolOf) → length ls ≤ k →
+pub all_read : (P : Track → Type 0) (k : ℕ) (ls : List TrackOf) (p : PoolOf) → length ls ≤ k →
     AllByRecursion P (tracks_in p (take k ls)) → AllByRecursion P (tracks_in p ls)
 all_read P k ls p past all =
     subst (λ us. AllByRecursion P (tracks_in p us)) (take_all k ls past) all
 
 -- whether a pin stands
-pub pinned_later : (k : ℕ) (ls : List LaneOf) (l : LaneOf) (p : PoolOf) (face : Face) →
+pub pinned_later : (k : ℕ) (ls : List TrackOf) (l : TrackOf) (p : PoolOf) (face : Face) →
     k < length ls → l ≡ get_or ls k l → face ≡ face_of (seen l.strip p) → face.pinned ≡ false →
     any_pinned (tracks_in p ls) ≡ any_pinned (tracks_in p (drop k ls)) →
     any_pinned (tracks_in p ls) ≡ any_pinned (tracks_in p (drop (k + 1) ls))
@@ -55,7 +55,7 @@ pinned_later k ls l p face less is seen_is isnt so_far =
     in so_far ∙ ap (λ us. any_pinned (tracks_in p us)) (opened ls k l less is)
     ∙ ap (λ b. b || any_pinned (tracks_in p (drop (k + 1) ls))) none
 
-pub pinned_here : (k : ℕ) (ls : List LaneOf) (l : LaneOf) (p : PoolOf) (face : Face) →
+pub pinned_here : (k : ℕ) (ls : List TrackOf) (l : TrackOf) (p : PoolOf) (face : Face) →
     k < length ls → l ≡ get_or ls k l → face ≡ face_of (seen l.strip p) → face.pinned ≡ true →
     any_pinned (tracks_in p ls) ≡ any_pinned (tracks_in p (drop k ls)) →
     true ≡ any_pinned (tracks_in p ls)
@@ -64,7 +64,7 @@ pinned_here k ls l p face less is seen_is isit so_far =
     in sym (so_far ∙ ap (λ us. any_pinned (tracks_in p us)) (opened ls k l less is)
     ∙ ap (λ b. b || any_pinned (tracks_in p (drop (k + 1) ls))) one)
 
-pub pinned_none : (k : ℕ) (ls : List LaneOf) (p : PoolOf) → length ls ≤ k →
+pub pinned_none : (k : ℕ) (ls : List TrackOf) (p : PoolOf) → length ls ≤ k →
     any_pinned (tracks_in p ls) ≡ any_pinned (tracks_in p (drop k ls)) →
     false ≡ any_pinned (tracks_in p ls)
 pinned_none k ls p past so_far =
@@ -79,7 +79,7 @@ some_first : (o other : Option Asker) → is_some o ≡ true → asker_or o othe
 some_first None other isit = let off : ⊥ = cc in absurd off
 some_first (Some a) other isit = refl
 
-pub runs_later : (k : ℕ) (ls : List LaneOf) (l : LaneOf) (p : PoolOf) (a : Option Asker)
+pub runs_later : (k : ℕ) (ls : List TrackOf) (l : TrackOf) (p : PoolOf) (a : Option Asker)
     (b : Bool) → k < length ls → l ≡ get_or ls k l → a ≡ session_asker l.asker → b ≡ is_some a →
     b ≡ false →
     running_session (tracks_in p ls) ≡ running_session (tracks_in p (drop k ls)) →
@@ -89,7 +89,7 @@ runs_later k ls l p a b less is asks some isnt so_far =
     in so_far ∙ ap (λ us. running_session (tracks_in p us)) (opened ls k l less is)
     ∙ none_else (session_asker l.asker) (running_session (tracks_in p (drop (k + 1) ls))) none
 
-pub runs_here : (k : ℕ) (ls : List LaneOf) (l : LaneOf) (p : PoolOf) (a : Option Asker) (b : Bool) →
+pub runs_here : (k : ℕ) (ls : List TrackOf) (l : TrackOf) (p : PoolOf) (a : Option Asker) (b : Bool) →
     k < length ls → l ≡ get_or ls k l → a ≡ session_asker l.asker → b ≡ is_some a → b ≡ true →
     running_session (tracks_in p ls) ≡ running_session (tracks_in p (drop k ls)) →
     a ≡ running_session (tracks_in p ls)
@@ -99,21 +99,21 @@ runs_here k ls l p a b less is asks some isit so_far =
     ∙ sym (so_far ∙ ap (λ us. running_session (tracks_in p us)) (opened ls k l less is)
     ∙ some_first (session_asker l.asker) (running_session (tracks_in p (drop (k + 1) ls))) one)
 
-pub runs_none : (k : ℕ) (ls : List LaneOf) (p : PoolOf) → length ls ≤ k →
+pub runs_none : (k : ℕ) (ls : List TrackOf) (p : PoolOf) → length ls ≤ k →
     running_session (tracks_in p ls) ≡ running_session (tracks_in p (drop k ls)) →
     None ≡ running_session (tracks_in p ls)
 runs_none k ls p past so_far =
     sym (so_far ∙ ap (λ us. running_session (tracks_in p us)) (drop_all k ls past))
 
 -- the track of an index
-pub track_there : (p : PoolOf) (ls : List LaneOf) (k : ℕ) (l : LaneOf) → k < length ls →
+pub track_there : (p : PoolOf) (ls : List TrackOf) (k : ℕ) (l : TrackOf) → k < length ls →
     l ≡ get_or ls k l → slice_get (tracks_in p ls) k ≡ Some (track_in p l)
 track_there p ls k l less is =
     let fits : k < length (tracks_in p ls) = simp length-map less
     in slice_get-get_or (tracks_in p ls) k (track_in p l) fits
     ∙ ap Some (get_or-map (track_in p) ls k l (track_in p l) less ∙ ap (track_in p) (sym is))
 
-pub no_track : (p : PoolOf) (ls : List LaneOf) (k : ℕ) → length ls ≤ k →
+pub no_track : (p : PoolOf) (ls : List TrackOf) (k : ℕ) → length ls ≤ k →
     slice_get (tracks_in p ls) k ≡ None
 no_track p ls k past = let fits : length (tracks_in p ls) ≤ k = simp length-map past
     in slice_get_past (tracks_in p ls) k fits
@@ -128,8 +128,8 @@ pub free_seen : (s : StripOf) (p : PoolOf) → is_pinned (seen s p) ≡ false �
 unfolding seen
 free_seen s p none = no_pin (at s.tape p) s.loop.stack.pin none
 
--- the lane of this index has no pin
-pub free_on : (k : ℕ) (ls : List LaneOf) (l : LaneOf) (p : PoolOf) → k < length ls →
+-- the track of this index has no pin
+pub free_on : (k : ℕ) (ls : List TrackOf) (l : TrackOf) (p : PoolOf) → k < length ls →
     l ≡ get_or ls k l → IsFreeAt k (tracks_in p ls) → l.strip.loop.stack.pin ≡ None
 free_on k ls l p less is free =
     free_seen l.strip p (subst IsFreeOn (track_there p ls k l less is) free)
@@ -144,7 +144,7 @@ free_from (suc k) [] none = refl
 free_from (suc k) (t ∷ ts) none = free_from k ts (neither (is_pinned t.loop) (any_pinned ts) none).1
 
 -- nor has one of those that aren't changed yet, where none had
-pub free_left : (k : ℕ) (ls ls0 : List LaneOf) (l : LaneOf) (p : PoolOf) → k < length ls →
+pub free_left : (k : ℕ) (ls ls0 : List TrackOf) (l : TrackOf) (p : PoolOf) → k < length ls →
     l ≡ get_or ls k l → drop k (tracks_in p ls) ≡ drop k (tracks_in p ls0) →
     any_pinned (tracks_in p ls0) ≡ false →
     l.strip.loop.stack.pin ≡ None

@@ -1,4 +1,4 @@
--- Fewer frames are as quiet, for one lane and for all.
+-- Fewer frames are as quiet, for one track and for all.
 use Rattle.std.proofs.Common.{◌≡◌, ℕ, zero, suc, ◌+◌, ◌<◌, ◌≤◌, List, [], ◌∷◌, length, take, get_or, ap, ◌∙◌, subst, arith, take-take}
 use Rattle.std.specs.List.{AllByRecursion}
 use Rattle.sl_base.specs.Sounds.{Sound}
@@ -8,7 +8,7 @@ use Rattle.looper_rules.specs.LoopFrame.{frame_later}
 use Rattle.looper_rules.specs.LoopSpans.{AreQuiet, AreQuietBehind}
 use Rattle.looper_laws.specs.Spans.{IsQuietBehindFor}
 use Rattle.loop_tape.specs.Pools.{PoolOf}
-use Rattle.looper_tracks.specs.Lanes.{LaneOf, track_in, tracks_in}
+use Rattle.looper_tracks.specs.Track.{TrackOf, track_in, tracks_in}
 use Rattle.looper_tracks.proofs.ReadLemmas.{all_more}
 
 -- fewer frames are as quiet
@@ -35,7 +35,7 @@ fewer_for_all n xs (t ∷ ts) all = (fewer_for n xs t all.0, fewer_for_all n xs 
 pub take_least : {X : Type 0} (m n : ℕ) (xs : List X) → m ≤ n → take m (take n xs) ≡ take m xs
 take_least m n xs le = simp take-take (ap (λ k. take k xs) (omega arith))
 
-pub quiet_more : (n q m k : ℕ) (xs : List Sound) (ls : List LaneOf) (l : LaneOf) (p : PoolOf) →
+pub quiet_more : (n q m k : ℕ) (xs : List Sound) (ls : List TrackOf) (l : TrackOf) (p : PoolOf) →
     k < length ls → l ≡ get_or ls k l → m ≤ n → m ≤ q →
     AllByRecursion (IsQuietBehindFor (take n xs)) (tracks_in p (take k ls)) →
     IsQuietBehindFor (take q (take n xs)) (track_in p l) →

@@ -1,4 +1,4 @@
--- All lanes over some frames: what they are and what they give.
+-- All tracks over some frames: what they are and what they give.
 use Rattle.std.proofs.Common.{◌≡◌, ℕ, ◌+◌, ◌-◌, ◌<◌, ◌≤◌, List, ◌∷◌, length, map, set, get_or, drop, refl, sym, ap, ap₂, ◌∙◌, subst, arith}
 use Rattle.std.proofs.lemmas.List.{drop-set-lt, drop_more, drop_all, length-map, get_or_default}
 use Rattle.sl_base.specs.Sounds.{Sound}
@@ -6,14 +6,14 @@ use Rattle.looper_rules.specs.Room.{chunks_of}
 use Rattle.looper_rules.specs.Looper.{Track, tape_of, reach_of}
 use Rattle.loop_tape.specs.Pools.{PoolOf}
 use Rattle.loop_strip.specs.Strips.{free_in, reach_in}
-use Rattle.looper_tracks.specs.Lanes.{LaneOf, track_in, tracks_in, AreIn, DidLane}
+use Rattle.looper_tracks.specs.Track.{TrackOf, track_in, tracks_in, AreIn, DidTrack}
 use Rattle.looper_rules.specs.TrackSpans.{track_over, given_over, all_over, given_of}
 use Rattle.looper_rules.specs.GainSpans.{added, added_all}
-use Rattle.looper_tracks.proofs.LaneLemmas.{turned}
+use Rattle.looper_tracks.proofs.TrackLemmas.{turned}
 use Rattle.looper_tracks.proofs.SweepLemmas.{Sweeping, sweeping_more, sweeping_none}
 
-pub record Summing (step : ℕ) (xs : List Sound) (ls0 : List LaneOf) (p0 : PoolOf)
-    (sums0 : List Sound) (ls : List LaneOf) (p : PoolOf) (sums : List Sound) (k : ℕ) : Type 0 where
+pub record Summing (step : ℕ) (xs : List Sound) (ls0 : List TrackOf) (p0 : PoolOf)
+    (sums0 : List Sound) (ls : List TrackOf) (p : PoolOf) (sums : List Sound) (k : ℕ) : Type 0 where
   pub sweep : Sweeping (track_over step xs) ls0 p0 ls p k
   pub whole : added_all sums (map given_of (all_over step xs (free_in p) (drop k (tracks_in p ls))))
       ≡ added_all sums0 (map given_of (all_over step xs (free_in p0) (tracks_in p0 ls0)))
@@ -43,11 +43,11 @@ sum_turn step xs ts k free free' t t' sums sums' whole less here is reach more s
     in rw same (sym now ∙ so_far)
 
 pub summing_more :
-    (step : ℕ) (xs : List Sound) (ls0 : List LaneOf) (p0 : PoolOf) (sums0 : List Sound)
-    (ls : List LaneOf) (p : PoolOf) (sums : List Sound) (k : ℕ) (l l' : LaneOf) (p' : PoolOf)
+    (step : ℕ) (xs : List Sound) (ls0 : List TrackOf) (p0 : PoolOf) (sums0 : List Sound)
+    (ls : List TrackOf) (p : PoolOf) (sums : List Sound) (k : ℕ) (l l' : TrackOf) (p' : PoolOf)
     (sums' : List Sound) →
     Summing step xs ls0 p0 sums0 ls p sums k → k < length ls0 → l ≡ get_or ls k l →
-    DidLane (track_over step xs) l l' p p' →
+    DidTrack (track_over step xs) l l' p p' →
     sums' ≡ added sums (given_over step xs (reach_in l.strip p) (track_in p l)) →
     length sums' ≡ length sums →
     Summing step xs ls0 p0 sums0 (set ls k l') p' sums' (k + 1)
@@ -69,11 +69,11 @@ summing_more step xs ls0 p0 sums0 ls p sums k l l' p' sums' h within is did more
     }
 
 pub summing_at :
-    (step : ℕ) (xs : List Sound) (ls0 : List LaneOf) (p0 : PoolOf) (sums0 : List Sound)
-    (ls : List LaneOf) (p : PoolOf) (sums : List Sound) (k : ℕ) (d l' : LaneOf) (p' : PoolOf)
+    (step : ℕ) (xs : List Sound) (ls0 : List TrackOf) (p0 : PoolOf) (sums0 : List Sound)
+    (ls : List TrackOf) (p : PoolOf) (sums : List Sound) (k : ℕ) (d l' : TrackOf) (p' : PoolOf)
     (sums' : List Sound) →
     Summing step xs ls0 p0 sums0 ls p sums k → k < length ls0 →
-    DidLane (track_over step xs) (get_or ls k d) l' p p' →
+    DidTrack (track_over step xs) (get_or ls k d) l' p p' →
     sums'
     ≡ added sums
     (given_over step xs (reach_in (get_or ls k d).strip p) (track_in p (get_or ls k d))) →
@@ -84,13 +84,13 @@ summing_at step xs ls0 p0 sums0 ls p sums k d l' p' sums' h within did more long
     in summing_more step xs ls0 p0 sums0 ls p sums k (get_or ls k d) l' p' sums' h within
     (get_or_default ls k d (get_or ls k d) less) did more long
 
-pub summing_none : (step : ℕ) (xs : List Sound) (ls : List LaneOf) (p : PoolOf)
+pub summing_none : (step : ℕ) (xs : List Sound) (ls : List TrackOf) (p : PoolOf)
     (sums : List Sound) → AreIn p ls → Summing step xs ls p sums ls p sums 0
 summing_none step xs ls p sums inside =
     record { sweep = sweeping_none (track_over step xs) ls p inside; whole = refl; long = refl }
 
-pub summing_all : (step : ℕ) (xs : List Sound) (ls0 : List LaneOf) (p0 : PoolOf)
-    (sums0 : List Sound) (ls : List LaneOf) (p : PoolOf) (sums : List Sound) (k : ℕ) →
+pub summing_all : (step : ℕ) (xs : List Sound) (ls0 : List TrackOf) (p0 : PoolOf)
+    (sums0 : List Sound) (ls : List TrackOf) (p : PoolOf) (sums : List Sound) (k : ℕ) →
     Summing step xs ls0 p0 sums0 ls p sums k → length ls ≤ k →
     sums ≡ added_all sums0 (map given_of (all_over step xs (free_in p0) (tracks_in p0 ls0)))
 summing_all step xs ls0 p0 sums0 ls p sums k h all =

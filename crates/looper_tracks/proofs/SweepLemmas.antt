@@ -1,15 +1,15 @@
--- Something done to all lanes in turn.
+-- Something done to all tracks in turn.
 use Rattle.std.proofs.Common.{◌≡◌, ℕ, zero, suc, ◌+◌, ◌-◌, ◌<◌, ◌≤◌, List, [], ◌∷◌, ◌++◌, length, map, set, get_or, take, drop, length-set, refl, sym, ap, ◌∙◌, subst, arith, append_assoc, append-nil}
 use Rattle.std.proofs.lemmas.List.{take_more_set, drop-set-lt, drop_more, length-map, take_all, drop_all, get_or_default}
 use Rattle.looper_rules.specs.Room.{chunks_of}
 use Rattle.looper_rules.specs.Looper.{Track, tape_of, reach_of, swept, itself, at_index}
 use Rattle.loop_tape.specs.Pools.{PoolOf}
 use Rattle.loop_strip.specs.Strips.{free_in, reach_in}
-use Rattle.looper_tracks.specs.Lanes.{LaneOf, track_in, tracks_in, AreIn, DidLane, DidLaneAlone, all_in, DidAll}
-use Rattle.looper_tracks.proofs.LaneLemmas.{turned, owned}
+use Rattle.looper_tracks.specs.Track.{TrackOf, track_in, tracks_in, AreIn, DidTrack, DidTrackAlone, all_in, DidAll}
+use Rattle.looper_tracks.proofs.TrackLemmas.{turned, owned}
 
 -- what is done so far, followed by what is still to do, is the whole
-pub record Sweeping (act : ℕ → Track → Track) (ls0 : List LaneOf) (p0 : PoolOf) (ls : List LaneOf)
+pub record Sweeping (act : ℕ → Track → Track) (ls0 : List TrackOf) (p0 : PoolOf) (ls : List TrackOf)
     (p : PoolOf) (k : ℕ) : Type 0 where
   pub tracks : take k (tracks_in p ls) ++ swept itself act (free_in p) (drop k (tracks_in p ls))
       ≡ swept itself act (free_in p0) (tracks_in p0 ls0)
@@ -52,9 +52,9 @@ pub rest_on : {X : Type 0} (ts ts0 : List X) (k : ℕ) → drop k ts ≡ drop k 
 rest_on ts ts0 k same = drop_next k ts ∙ ap (drop 1) same ∙ sym (drop_next k ts0)
 
 pub sweeping_more :
-    (act : ℕ → Track → Track) (ls0 : List LaneOf) (p0 : PoolOf) (ls : List LaneOf) (p : PoolOf)
-    (k : ℕ) (l l' : LaneOf) (p' : PoolOf) →
-    Sweeping act ls0 p0 ls p k → k < length ls0 → l ≡ get_or ls k l → DidLane act l l' p p' →
+    (act : ℕ → Track → Track) (ls0 : List TrackOf) (p0 : PoolOf) (ls : List TrackOf) (p : PoolOf)
+    (k : ℕ) (l l' : TrackOf) (p' : PoolOf) →
+    Sweeping act ls0 p0 ls p k → k < length ls0 → l ≡ get_or ls k l → DidTrack act l l' p p' →
     Sweeping act ls0 p0 (set ls k l') p' (k + 1)
 sweeping_more act ls0 p0 ls p k l l' p' h within is did =
     let less : k < length ls = (let same = h.count in omega arith)
@@ -76,9 +76,9 @@ sweeping_more act ls0 p0 ls p k l l' p' h within is did =
     }
 
 pub sweeping_at :
-    (act : ℕ → Track → Track) (ls0 : List LaneOf) (p0 : PoolOf) (ls : List LaneOf) (p : PoolOf)
-    (k : ℕ) (d l' : LaneOf) (p' : PoolOf) →
-    Sweeping act ls0 p0 ls p k → k < length ls0 → DidLane act (get_or ls k d) l' p p' →
+    (act : ℕ → Track → Track) (ls0 : List TrackOf) (p0 : PoolOf) (ls : List TrackOf) (p : PoolOf)
+    (k : ℕ) (d l' : TrackOf) (p' : PoolOf) →
+    Sweeping act ls0 p0 ls p k → k < length ls0 → DidTrack act (get_or ls k d) l' p p' →
     Sweeping act ls0 p0 (set ls k l') p' (k + 1)
 sweeping_at act ls0 p0 ls p k d l' p' h within did =
     let less : k < length ls = (let same = h.count in omega arith)
@@ -87,20 +87,20 @@ sweeping_at act ls0 p0 ls p k d l' p' h within did =
 
 -- the same where the pool has no part in it
 pub sweeping_alone :
-    (act : ℕ → Track → Track) (ls0 : List LaneOf) (ls : List LaneOf) (p : PoolOf) (k : ℕ)
-    (d l' : LaneOf) →
-    Sweeping act ls0 p ls p k → k < length ls0 → DidLaneAlone act (get_or ls k d) l' →
+    (act : ℕ → Track → Track) (ls0 : List TrackOf) (ls : List TrackOf) (p : PoolOf) (k : ℕ)
+    (d l' : TrackOf) →
+    Sweeping act ls0 p ls p k → k < length ls0 → DidTrackAlone act (get_or ls k d) l' →
     Sweeping act ls0 p (set ls k l') p (k + 1)
 sweeping_alone act ls0 ls p k d l' h within did =
     let less : k < length ls = (let same = h.count in omega arith)
     in sweeping_at act ls0 p ls p k d l' p h within (did p (owned ls k d p h.inside less))
 
-pub sweeping_none : (act : ℕ → Track → Track) (ls : List LaneOf) (p : PoolOf) → AreIn p ls →
+pub sweeping_none : (act : ℕ → Track → Track) (ls : List TrackOf) (p : PoolOf) → AreIn p ls →
     Sweeping act ls p ls p 0
 sweeping_none act ls p inside =
     record { tracks = refl; rest = refl; inside = inside; chunks = refl; count = refl }
 
-pub sweeping_all : (act : ℕ → Track → Track) (ls0 : List LaneOf) (p0 : PoolOf) (ls : List LaneOf)
+pub sweeping_all : (act : ℕ → Track → Track) (ls0 : List TrackOf) (p0 : PoolOf) (ls : List TrackOf)
     (p : PoolOf) (k : ℕ) → Sweeping act ls0 p0 ls p k → length ls0 ≤ k →
     DidAll (swept itself act) ls0 ls p0 p
 sweeping_all act ls0 p0 ls p k h past =
@@ -132,8 +132,8 @@ at_index_past act free (u ∷ us) zero past = absurd (omega arith)
 at_index_past act free (u ∷ us) (suc k) past =
     ap (λ vs. u ∷ vs) (at_index_past act free us k (omega arith))
 
-pub one_done : (act : ℕ → Track → Track) (ls : List LaneOf) (k : ℕ) (l l' : LaneOf)
-    (p p' : PoolOf) → k < length ls → l ≡ get_or ls k l → AreIn p ls → DidLane act l l' p p' →
+pub one_done : (act : ℕ → Track → Track) (ls : List TrackOf) (k : ℕ) (l l' : TrackOf)
+    (p p' : PoolOf) → k < length ls → l ≡ get_or ls k l → AreIn p ls → DidTrack act l l' p p' →
     DidAll (at_index k act) ls (set ls k l') p p'
 one_done act ls k l l' p p' less is inside did =
     let now = turned act ls k l l' p p' less is inside did
@@ -146,7 +146,7 @@ one_done act ls k l l' p p' less is inside did =
       count = simp length-set;
     }
 
-pub none_done : (act : ℕ → Track → Track) (ls : List LaneOf) (k : ℕ) (p : PoolOf) → length ls ≤ k →
+pub none_done : (act : ℕ → Track → Track) (ls : List TrackOf) (k : ℕ) (p : PoolOf) → length ls ≤ k →
     AreIn p ls → DidAll (at_index k act) ls ls p p
 none_done act ls k p past inside =
     let fits : length (tracks_in p ls) ≤ k = simp length-map past
@@ -158,15 +158,15 @@ none_done act ls k p past inside =
       count = refl;
     }
 
-pub one_at : (act : ℕ → Track → Track) (ls : List LaneOf) (k : ℕ) (d l' : LaneOf) (p p' : PoolOf) →
-    k < length ls → AreIn p ls → DidLane act (get_or ls k d) l' p p' →
+pub one_at : (act : ℕ → Track → Track) (ls : List TrackOf) (k : ℕ) (d l' : TrackOf) (p p' : PoolOf) →
+    k < length ls → AreIn p ls → DidTrack act (get_or ls k d) l' p p' →
     DidAll (at_index k act) ls (set ls k l') p p'
 one_at act ls k d l' p p' less inside did =
     one_done act ls k (get_or ls k d) l' p p' less (get_or_default ls k d (get_or ls k d) less)
     inside did
 
-pub one_alone : (act : ℕ → Track → Track) (ls : List LaneOf) (k : ℕ) (d l' : LaneOf) (p : PoolOf) →
-    k < length ls → AreIn p ls → DidLaneAlone act (get_or ls k d) l' →
+pub one_alone : (act : ℕ → Track → Track) (ls : List TrackOf) (k : ℕ) (d l' : TrackOf) (p : PoolOf) →
+    k < length ls → AreIn p ls → DidTrackAlone act (get_or ls k d) l' →
     DidAll (at_index k act) ls (set ls k l') p p
 one_alone act ls k d l' p less inside did =
     one_at act ls k d l' p p less inside (did p (owned ls k d p inside less))

@@ -1,4 +1,4 @@
--- How all loops begin: each lane with no list, over a pool of which every chunk is free, and then
+-- How all loops begin: each track with no list, over a pool of which every chunk is free, and then
 -- each list on its tape.
 -- "The run" in docs/rules.md.
 use Rattle.std.specs.Prelude.{◌≡◌, ◌≤◌, ℕ, true, List, [], length, None}
@@ -9,11 +9,11 @@ use Rattle.looper_rules.specs.Room.{chunks_of}
 use Rattle.looper_rules.specs.Run.{first_loop, first_tracks}
 use Rattle.loop_tape.specs.Pools.{PoolOf}
 use Rattle.loop_strip.specs.Strips.{free_in, Owns}
-use Rattle.looper_tracks.specs.Lanes.{LaneOf, tracks_in, AreIn, all_in}
+use Rattle.looper_tracks.specs.Track.{TrackOf, tracks_in, AreIn, all_in}
 
--- a lane of no list, with room for a tape of so many chunks
-abbrev pub new_lane : ℕ → StripSettings → LaneOf
-new_lane chunks s =
+-- a track of no list, with room for a tape of so many chunks
+abbrev pub new_track : ℕ → StripSettings → TrackOf
+new_track chunks s =
     record {
       strip = record {
         loop = first_loop [] s;
@@ -23,18 +23,18 @@ new_lane chunks s =
       asker = None;
     }
 
--- a new lane may begin with this list, as its settings say, and there are chunks for it
-pub record MayLoad (s : StripSettings) (list : List Sound) (all : ℕ) (l : LaneOf)
+-- a new track may begin with this list, as its settings say, and there are chunks for it
+pub record MayLoad (s : StripSettings) (list : List Sound) (all : ℕ) (l : TrackOf)
     (p : PoolOf) : Type 0 where
-  pub lane : l ≡ new_lane all s
+  pub track : l ≡ new_track all s
   pub owns : Owns l.strip p
   pub valid : is_strip s ≡ true
   pub long : s.length ≡ length list
   pub room : chunks_of (length list) ≤ free_in p
 
--- these lists stand on the lanes, over a pool of so many chunks
+-- these lists stand on the tracks, over a pool of so many chunks
 pub record HaveLoaded (strips : List StripSettings) (lists : List (List Sound)) (all : ℕ)
-    (ls : List LaneOf) (p : PoolOf) : Type 0 where
+    (ls : List TrackOf) (p : PoolOf) : Type 0 where
   pub tracks : tracks_in p ls ≡ first_tracks strips lists
   pub inside : AreIn p ls
   pub chunks : all_in p ls ≡ all

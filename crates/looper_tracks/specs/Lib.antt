@@ -1,3 +1,3 @@
-pub mod Lanes
+pub mod Track
 pub mod Tracks
 pub mod Beginnings

@@ -8,15 +8,15 @@ use Rattle.looper_rules.specs.Looper.{Track, free_of}
 use Rattle.looper_rules.specs.Pins.{pin_on}
 use Rattle.looper_rules.specs.Saves.{is_pinned}
 use Rattle.loop_tape.specs.Pools.{PoolOf}
-use Rattle.looper_tracks.specs.Lanes.{LaneOf, tracks_in, all_in}
+use Rattle.looper_tracks.specs.Track.{TrackOf, tracks_in, all_in}
 
 -- what all tracks are seen as
 pub record TracksOf : Type 0 where
   pub chunks : ℕ
   pub tracks : List Track
 
--- the tracks of these lanes
-abbrev pub tracks_of : PoolOf → List LaneOf → TracksOf
+-- all tracks over this pool
+abbrev pub tracks_of : PoolOf → List TrackOf → TracksOf
 tracks_of p ls = record { chunks = all_in p ls; tracks = tracks_in p ls }
 
 -- the free chunks

@@ -4,9 +4,9 @@ ghost use Rattle.std.specs.Prelude.{◌≡◌, ◌≤◌, ◌<◌, ◌-◌, IsTr
 ghost use Rattle.std.specs.List.{AllByRecursion};
 ghost use Rattle.looper_laws.specs.Spans.{KeepsTime, NoBoundaryWithin, IsClearFor, keeps_time};
 ghost use Rattle.loop_tape.specs.Pools.{PoolOf};
-ghost use Rattle.looper_tracks.specs.Lanes.{track_in, tracks_in};
+ghost use Rattle.looper_tracks.specs.Track.{track_in, tracks_in};
 
-use crate::lane::Lane;
+use crate::track::Track;
 use quantise_sync::{SyncSetup, next_boundary};
 use sl_commands::{Face, Globals, Mode};
 
@@ -51,24 +51,24 @@ fn frames_to_boundary(faces: &[Face], globals: &Globals, quantize: u8, frame: u6
     next_boundary(faces, &setup, most).max(1)
 }
 
-/// How many of so many frames pass before a verb that waits on this lane may act.
-fn calm_of(lane: &Lane, faces: &[Face], globals: &Globals, frame: u64, most: u32) -> u32
+/// How many of so many frames pass before a verb that waits on this track may act.
+fn calm_of(track: &Track, faces: &[Face], globals: &Globals, frame: u64, most: u32) -> u32
     requires some { 1 ≤ most }
     ensures some { 1 ≤ result }
     ensures within { result ≤ most }
     ensures calm { (p : PoolOf) → IsClearFor globals.now frame faces.now (result - 1)
-        (track_in p lane.now) }
+        (track_in p track.now) }
 {
-    if lane.face().waiting.is_none() {
+    if track.face().waiting.is_none() {
         return most;
     }
-    frames_to_boundary(faces, globals, lane.quantize(), frame, most)
+    frames_to_boundary(faces, globals, track.quantize(), frame, most)
 }
 
 /// How many of so many frames pass before a verb that waits on one of them may act, these being
 /// their faces.
 pub(crate) fn calm_frames(
-    lanes: &[Lane],
+    tracks: &[Track],
     faces: &[Face],
     globals: &Globals,
     frame: u64,
@@ -80,14 +80,14 @@ pub(crate) fn calm_frames(
     ensures time { 1 < result → KeepsTime globals.now.sync_source faces.now }
     ensures calm { (p : PoolOf) → 1 < result
         → AllByRecursion (IsClearFor globals.now frame faces.now (result - 1))
-        (tracks_in p lanes.now) }
+        (tracks_in p tracks.now) }
 {
     if !source_keeps_time(faces, globals.sync_source) {
         return 1;
     }
     let mut frames = most;
-    for k in 0..lanes.len() {
-        frames = frames.min(calm_of(&lanes[k], faces, globals, frame, most));
+    for k in 0..tracks.len() {
+        frames = frames.min(calm_of(&tracks[k], faces, globals, frame, most));
     }
     frames
 }

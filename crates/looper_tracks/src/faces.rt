@@ -1,22 +1,22 @@
-//! What is seen of all lanes at one moment.
+//! What is seen of all tracks at one moment.
 
 ghost use Rattle.std.specs.Prelude.{◌≡◌, ◌≤◌, ◌<◌, length, map};
 ghost use Rattle.std.specs.Vec.{vec_capacity};
 ghost use Rattle.looper_rules.specs.Looper.{face_on};
 ghost use Rattle.loop_tape.specs.Pools.{PoolOf};
-ghost use Rattle.looper_tracks.specs.Lanes.{tracks_in};
+ghost use Rattle.looper_tracks.specs.Track.{tracks_in};
 
-use crate::lane::Lane;
+use crate::track::Track;
 use sl_commands::Face;
 
 /// All faces, in the room of a list.
-pub(crate) fn take_faces(lanes: &[Lane], faces: &mut Vec<Face>)
-    requires room { length lanes.now ≤ vec_capacity faces.old }
-    ensures faces { (p : PoolOf) → faces.new.items ≡ map face_on (tracks_in p lanes.now) }
+pub(crate) fn take_faces(tracks: &[Track], faces: &mut Vec<Face>)
+    requires room { length tracks.now ≤ vec_capacity faces.old }
+    ensures faces { (p : PoolOf) → faces.new.items ≡ map face_on (tracks_in p tracks.now) }
     ensures room { vec_capacity faces.new ≡ vec_capacity faces.old }
 {
     faces.clear();
-    for k in 0..lanes.len() {
-        faces.push_reserved(lanes[k].face());
+    for k in 0..tracks.len() {
+        faces.push_reserved(tracks[k].face());
     }
 }

@@ -15,14 +15,14 @@
 //!   stay as many together.
 //! - Only `Tracks::new` takes memory.
 //!
-//! Begin with `tracks`. Below it `sweep` has what is done to all in turn, and `lane` one loop with
+//! Begin with `tracks`. Below it `sweep` has what is done to all in turn, and `track` one loop with
 //! its gain. The rules are "The looper", "Room" and "One frame of the looper" in docs/rules.md.
 #![tactic(auto)]
 
 mod asker;
 mod calm;
 mod faces;
-mod lane;
+mod track;
 mod load;
 mod read;
 mod saved;

@@ -1,4 +1,4 @@
-//! How all lanes begin.
+//! How all tracks begin.
 
 ghost use Rattle.std.specs.Prelude.{◌≡◌, ◌≤◌, length, map, IsTrue, IfOk};
 ghost use Rattle.sl_base.specs.Limits.{max_chunks, max_list_frames};
@@ -6,9 +6,9 @@ ghost use Rattle.sl_commands.specs.Settings.{are_strips};
 ghost use Rattle.looper_rules.specs.Room.{chunks_of, used};
 ghost use Rattle.looper_rules.specs.Run.{first_tracks};
 ghost use Rattle.looper_rules.specs.Reached.{AreLists};
-ghost use Rattle.looper_tracks.specs.Beginnings.{new_lane, HaveLoaded};
+ghost use Rattle.looper_tracks.specs.Beginnings.{new_track, HaveLoaded};
 
-use crate::lane::Lane;
+use crate::track::Track;
 use crate::tracks::Tracks;
 use loop_strip::Pool;
 use sl_base::{CHUNK_FRAMES, Frames, Memory};
@@ -38,41 +38,41 @@ pub fn chunks_needed(strips: &[StripSettings], lists: &[Frames]) -> u32
     chunks
 }
 
-/// A lane for each of these settings, all empty, each with room for a tape of so many chunks.
-fn new_lanes(alloc: Global, strips: &[StripSettings], chunks: u32) -> Result<Vec<Lane>, Memory>
+/// A track for each of these settings, all empty, each with room for a tape of so many chunks.
+fn new_tracks(alloc: Global, strips: &[StripSettings], chunks: u32) -> Result<Vec<Track>, Memory>
     requires strips { IsTrue (are_strips strips.now) }
     requires chunks { chunks ≤ max_chunks }
-    ensures { IfOk result (λ ls. ls.items ≡ map (new_lane chunks) strips.now) }
+    ensures { IfOk result (λ ls. ls.items ≡ map (new_track chunks) strips.now) }
 {
-    let Ok(mut lanes) = Vec::with_capacity(alloc, strips.len()) else {
+    let Ok(mut tracks) = Vec::with_capacity(alloc, strips.len()) else {
         return Err(Memory);
     };
     for k in 0..strips.len() {
-        let lane = Lane::new(alloc, strips[k], chunks)?;
-        lanes.push_reserved(lane);
+        let track = Track::new(alloc, strips[k], chunks)?;
+        tracks.push_reserved(track);
     }
-    Ok(lanes)
+    Ok(tracks)
 }
 
-/// The lists laid on the tapes of new lanes.
+/// The lists laid on the tapes of new tracks.
 fn load_all(
-    lanes: &mut [Lane],
+    tracks: &mut [Track],
     pool: &mut Pool,
     strips: &[StripSettings],
     lists: &[Frames],
     chunks: u32,
 )
-    requires new { lanes.old ≡ map (new_lane chunks) strips.now }
+    requires new { tracks.old ≡ map (new_track chunks) strips.now }
     requires few { length strips.now ≤ 16 }
     requires all { pool.old.all ≤ chunks }
     requires strips { IsTrue (are_strips strips.now) }
     requires lists { AreLists strips.now lists.now }
     requires room { used (map length lists.now) ≤ length pool.old.free }
-    ensures { HaveLoaded strips.now lists.now (length pool.old.free) lanes.new pool.new }
+    ensures { HaveLoaded strips.now lists.now (length pool.old.free) tracks.new pool.new }
 {
     for k in 0..lists.len() {
         let list = lists[k].as_slice();
-        lanes[k].begin(pool, strips[k], list, chunks);
+        tracks[k].begin(pool, strips[k], list, chunks);
     }
 }
 
@@ -94,8 +94,8 @@ impl Tracks {
             record { chunks = chunks; tracks = first_tracks strips.now lists.now }) }
     {
         let mut pool = Pool::new(alloc, chunks)?;
-        let mut lanes = new_lanes(alloc, strips, chunks)?;
-        load_all(&mut lanes, &mut pool, strips, lists, chunks);
-        Ok(Tracks { pool, lanes })
+        let mut tracks = new_tracks(alloc, strips, chunks)?;
+        load_all(&mut tracks, &mut pool, strips, lists, chunks);
+        Ok(Tracks { pool, tracks })
     }
 }

@@ -1,4 +1,4 @@
-//! What is read of all lanes, and of one of them.
+//! What is read of all tracks, and of one of them.
 
 ghost use Rattle.std.specs.Prelude.{◌≡◌, ◌≤◌, ◌<◌, ◌+◌, ◌==◌, length, slice_get, option_map, sum_by};
 ghost use Rattle.std.specs.Option.{option_and_then};
@@ -6,22 +6,22 @@ ghost use Rattle.looper_rules.specs.Saves.{any_pinned, save_refusal, loop_asker,
 ghost use Rattle.looper_rules.specs.Entries.{value_on};
 ghost use Rattle.loop_tape.specs.Pools.{PoolOf};
 ghost use Rattle.loop_strip.specs.Strips.{free_in};
-ghost use Rattle.looper_tracks.specs.Lanes.{tracks_in};
+ghost use Rattle.looper_tracks.specs.Track.{tracks_in};
 ghost use Rattle.looper_tracks.specs.Tracks.{free_among, refused_on};
 
 use crate::asker::{Asker, loop_asker, session_asker};
-use crate::lane::Lane;
+use crate::track::Track;
 use crate::tracks::Tracks;
 use loop_strip::Pool;
 use sl_commands::{Control, Face};
 
-/// The value of a control of the lane of this index, where there is one.
-fn value_at(lanes: &[Lane], pool: &Pool, index: usize, control: Control) -> Option<i32>
+/// The value of a control of the track of this index, where there is one.
+fn value_at(tracks: &[Track], pool: &Pool, index: usize, control: Control) -> Option<i32>
     ensures { result ≡ option_map (value_on control (free_in pool.now))
-        (slice_get (tracks_in pool.now lanes.now) index) }
+        (slice_get (tracks_in pool.now tracks.now) index) }
 {
-    if index < lanes.len() {
-        Some(lanes[index].value(pool, control))
+    if index < tracks.len() {
+        Some(tracks[index].value(pool, control))
     } else {
         None
     }
@@ -40,36 +40,36 @@ fn refusal_of(face: Face) -> Option<u8>
     }
 }
 
-/// The answer at once to a save of the lane of this index, where there is one.
-fn refusal_at(lanes: &[Lane], index: usize) -> Option<u8>
+/// The answer at once to a save of the track of this index, where there is one.
+fn refusal_at(tracks: &[Track], index: usize) -> Option<u8>
     ensures { (p : PoolOf) → result ≡
-        option_and_then save_refusal (slice_get (tracks_in p lanes.now) index) }
+        option_and_then save_refusal (slice_get (tracks_in p tracks.now) index) }
 {
-    if index < lanes.len() {
-        refusal_of(lanes[index].face())
+    if index < tracks.len() {
+        refusal_of(tracks[index].face())
     } else {
         None
     }
 }
 
 /// Who asked for the save of the loop of this index, where one runs.
-fn loop_asker_at(lanes: &[Lane], index: usize) -> Option<Asker>
+fn loop_asker_at(tracks: &[Track], index: usize) -> Option<Asker>
     ensures { (p : PoolOf) → result ≡
-        option_and_then (λ t. loop_asker t.asker) (slice_get (tracks_in p lanes.now) index) }
+        option_and_then (λ t. loop_asker t.asker) (slice_get (tracks_in p tracks.now) index) }
 {
-    if index < lanes.len() {
-        loop_asker(lanes[index].asker())
+    if index < tracks.len() {
+        loop_asker(tracks[index].asker())
     } else {
         None
     }
 }
 
 /// Who asked for the session's save that runs, where one does.
-fn running_session(lanes: &[Lane]) -> Option<Asker>
-    ensures { (p : PoolOf) → result ≡ running_session (tracks_in p lanes.now) }
+fn running_session(tracks: &[Track]) -> Option<Asker>
+    ensures { (p : PoolOf) → result ≡ running_session (tracks_in p tracks.now) }
 {
-    for k in 0..lanes.len() {
-        let asker = session_asker(lanes[k].asker());
+    for k in 0..tracks.len() {
+        let asker = session_asker(tracks[k].asker());
         if asker.is_some() {
             return asker;
         }
@@ -78,11 +78,11 @@ fn running_session(lanes: &[Lane]) -> Option<Asker>
 }
 
 /// Whether a pin stands on one of them.
-fn any_pinned(lanes: &[Lane]) -> bool
-    ensures { (p : PoolOf) → result ≡ any_pinned (tracks_in p lanes.now) }
+fn any_pinned(tracks: &[Track]) -> bool
+    ensures { (p : PoolOf) → result ≡ any_pinned (tracks_in p tracks.now) }
 {
-    for k in 0..lanes.len() {
-        if lanes[k].face().pinned {
+    for k in 0..tracks.len() {
+        if tracks[k].face().pinned {
             return true;
         }
     }
@@ -90,13 +90,13 @@ fn any_pinned(lanes: &[Lane]) -> bool
 }
 
 /// How often something was refused, over all of them.
-fn refused(lanes: &[Lane]) -> u64
-    requires few { length lanes.now ≤ 16 }
-    ensures { (p : PoolOf) → result ≡ sum_by refused_on (tracks_in p lanes.now) }
+fn refused(tracks: &[Track]) -> u64
+    requires few { length tracks.now ≤ 16 }
+    ensures { (p : PoolOf) → result ≡ sum_by refused_on (tracks_in p tracks.now) }
 {
     let mut sum = 0;
-    for k in 0..lanes.len() {
-        sum += lanes[k].face().refused as u64;
+    for k in 0..tracks.len() {
+        sum += tracks[k].face().refused as u64;
     }
     sum
 }
@@ -107,14 +107,14 @@ impl Tracks {
         ensures { result ≡
             option_map (value_on control (free_among self.now)) (slice_get self.now.tracks index) }
     {
-        value_at(&self.lanes, &self.pool, index, control)
+        value_at(&self.tracks, &self.pool, index, control)
     }
 
     /// The answer at once to a save of the loop of this index, where there is one.
     pub fn save_refusal(&self, index: usize) -> Option<u8>
         ensures { result ≡ option_and_then save_refusal (slice_get self.now.tracks index) }
     {
-        refusal_at(&self.lanes, index)
+        refusal_at(&self.tracks, index)
     }
 
     /// Who asked for the save of the loop of this index, where one runs.
@@ -122,21 +122,21 @@ impl Tracks {
         ensures { result ≡ option_and_then (λ t. loop_asker t.asker)
             (slice_get self.now.tracks index) }
     {
-        loop_asker_at(&self.lanes, index)
+        loop_asker_at(&self.tracks, index)
     }
 
     /// Who asked for the session's save that runs, where one does.
     pub fn running_session(&self) -> Option<Asker>
         ensures { result ≡ running_session self.now.tracks }
     {
-        running_session(&self.lanes)
+        running_session(&self.tracks)
     }
 
     /// Whether a pin stands on one of them.
     pub fn any_pinned(&self) -> bool
         ensures { result ≡ any_pinned self.now.tracks }
     {
-        any_pinned(&self.lanes)
+        any_pinned(&self.tracks)
     }
 
     /// How often something was refused, over all loops.
@@ -144,6 +144,6 @@ impl Tracks {
         requires few { length self.now.tracks ≤ 16 }
         ensures { result ≡ sum_by refused_on self.now.tracks }
     {
-        refused(&self.lanes)
+        refused(&self.tracks)
     }
 }

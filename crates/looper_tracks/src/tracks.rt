@@ -1,4 +1,4 @@
-//! All lanes and the pool under them: the tracks of a looper.
+//! All tracks of a looper, and the pool under them.
 
 ghost use Rattle.std.specs.Prelude.{◌≡◌, ◌≤◌, ◌<◌, ◌-◌, false, length, map, take, IsTrue, IsFalse};
 ghost use Rattle.std.specs.List.{AllByRecursion};
@@ -18,7 +18,7 @@ ghost use Rattle.looper_tracks.specs.Tracks.{free_among, IsFreeAt, DidTracks};
 use crate::asker::Asker;
 use crate::calm::calm_frames;
 use crate::faces::take_faces;
-use crate::lane::Lane;
+use crate::track::Track;
 use crate::span::{any_waits, play_all, quiet_frames};
 use crate::sweep::{give_to, meet_boundaries, pin_all, pin_one, release_all, release_one, set_to};
 use loop_strip::{Pool, Press};
@@ -27,22 +27,22 @@ use sl_base::Frame;
 use sl_commands::{Control, Face, Globals, Target, Verb};
 use std::marker::Model;
 
-/// The lanes by index, over one pool.
+/// The tracks by index, over one pool.
 #[derive(Drop)]
 pub struct Tracks {
     pub(crate) pool: Pool,
-    pub(crate) lanes: Vec<Lane>,
+    pub(crate) tracks: Vec<Track>,
 }
 
 impl Model for Tracks {
-    ghost use Rattle.looper_tracks.specs.Lanes.{AreIn};
+    ghost use Rattle.looper_tracks.specs.Track.{AreIn};
     ghost use Rattle.looper_tracks.specs.Tracks.{TracksOf, tracks_of};
 
     ghost Value = { TracksOf };
 
-    ghost view = { λ t. tracks_of t.pool t.lanes.items };
+    ghost view = { λ t. tracks_of t.pool t.tracks.items };
 
-    ghost invariant = { λ t. AreIn t.pool t.lanes.items };
+    ghost invariant = { λ t. AreIn t.pool t.tracks.items };
 }
 
 impl Tracks {
@@ -50,7 +50,7 @@ impl Tracks {
     pub fn len(&self) -> usize
         ensures { result ≡ length self.now.tracks }
     {
-        self.lanes.len()
+        self.tracks.len()
     }
 
     /// A verb given to the loops of a target.
@@ -68,7 +68,7 @@ impl Tracks {
             self.old self.new }
     {
         give_to(
-            &mut self.lanes,
+            &mut self.tracks,
             &mut self.pool,
             target,
             selected,
@@ -86,7 +86,7 @@ impl Tracks {
             self.old self.new }
     {
         set_to(
-            &mut self.lanes,
+            &mut self.tracks,
             &self.pool,
             target,
             selected,
@@ -100,7 +100,7 @@ impl Tracks {
         ensures { DidTracks (swept itself (on_loop (at_boundary globals.now frame faces.now)))
             self.old self.new }
     {
-        meet_boundaries(&mut self.lanes, &mut self.pool, faces, globals, frame);
+        meet_boundaries(&mut self.tracks, &mut self.pool, faces, globals, frame);
     }
 
     /// All faces, in the room of a list.
@@ -109,7 +109,7 @@ impl Tracks {
         ensures faces { faces.new.items ≡ map face_on self.now.tracks }
         ensures room { vec_capacity faces.new ≡ vec_capacity faces.old }
     {
-        take_faces(&self.lanes, faces);
+        take_faces(&self.tracks, faces);
     }
 
     /// Some frames, one track after another. What is heard of each is added to the sums, which
@@ -125,7 +125,7 @@ impl Tracks {
             (map given_of (all_over step input.now (free_among self.old) self.old.tracks)) }
         ensures within { AreSumsOf 16 sums.new }
     {
-        play_all(&mut self.lanes, &mut self.pool, input, heard, sums, step);
+        play_all(&mut self.tracks, &mut self.pool, input, heard, sums, step);
     }
 
     /// For how many of these frames, from the first on, those behind the first are quiet for every
@@ -136,14 +136,14 @@ impl Tracks {
         ensures within { result ≤ length input.now }
         ensures quiet { AllByRecursion (IsQuietBehindFor (take result input.now)) self.now.tracks }
     {
-        quiet_frames(&self.lanes, input)
+        quiet_frames(&self.tracks, input)
     }
 
     /// Whether a verb waits on one of them.
     pub fn any_waits(&self) -> bool
         ensures { IsFalse result → AllByRecursion NoVerbWaits self.now.tracks }
     {
-        any_waits(&self.lanes)
+        any_waits(&self.tracks)
     }
 
     /// The list of the loop of this index pinned for someone who asked for a save.
@@ -151,7 +151,7 @@ impl Tracks {
         requires free { IsFreeAt index self.old.tracks }
         ensures { DidTracks (at_index index (λ reach t. pinned_for asker t)) self.old self.new }
     {
-        pin_one(&mut self.lanes, &self.pool, index, asker);
+        pin_one(&mut self.tracks, &self.pool, index, asker);
     }
 
     /// All lists pinned for someone who asked for a save.
@@ -159,21 +159,21 @@ impl Tracks {
         requires free { any_pinned self.old.tracks ≡ false }
         ensures { DidTracks (swept itself (λ reach t. pinned_for asker t)) self.old self.new }
     {
-        pin_all(&mut self.lanes, &self.pool, asker);
+        pin_all(&mut self.tracks, &self.pool, asker);
     }
 
     /// The pin of a loop's save taken away from the loop of this index, where it is one.
     pub fn release(&mut self, index: usize)
         ensures { DidTracks (at_index index (λ reach t. loop_released t)) self.old self.new }
     {
-        release_one(&mut self.lanes, &self.pool, index);
+        release_one(&mut self.tracks, &self.pool, index);
     }
 
     /// The pins of a session's save taken away.
     pub fn release_all(&mut self)
         ensures { DidTracks (swept itself (λ reach t. session_released t)) self.old self.new }
     {
-        release_all(&mut self.lanes, &self.pool);
+        release_all(&mut self.tracks, &self.pool);
     }
 
     /// How many of so many frames pass before a verb that waits on one of them may act, these being
@@ -186,6 +186,6 @@ impl Tracks {
         ensures calm { 1 < result →
             AllByRecursion (IsClearFor globals.now frame faces.now (result - 1)) self.now.tracks }
     {
-        calm_frames(&self.lanes, faces, globals, frame, most)
+        calm_frames(&self.tracks, faces, globals, frame, most)
     }
 }

@@ -6,7 +6,7 @@ use Rattle.std.specs.List.{insert, range_with_len}
 use Rattle.std.proofs.Math.Seq.{take-append_seam, drop-append_seam}
 use Rattle.pieces.proofs.SplittingLemmas.{length-split, length-piece, total-behind, before-past, behind-past, total-before, total-append, split_same, len-within}
 use Rattle.pieces.proofs.AddressLemmas.{addresses-append, addresses-before, addresses-behind, set-by-parts, length-addresses, length-behind, length-before}
-use Rattle.pieces.proofs.OneMoreLemmas.{offset-past, offset-none, before-none, drop-drop, solid-before, solid-behind, solid-append, behind-none, out-total, out-within, overwritten-index, overwritten-drop, runs-kept}
+use Rattle.pieces.proofs.OneMoreLemmas.{offset-past, offset-none, before-none, drop-drop, solid-before, solid-behind, solid-append, behind-none, out-total, out-within, overwritten-index, overwritten-drop, continues-kept}
 use Rattle.pieces.specs.Pieces.{Piece, Solid, address_in, addresses, total}
 use Rattle.pieces.specs.Splitting.{IsHint, back, before, behind, front, offset, split}
 use Rattle.pieces.specs.OneMore.{ContinuesBackward, grown_down, grows_down, joined_before, one, overwritten_backward, starts}
@@ -158,10 +158,10 @@ down-starts : (a : ℕ) (ps : List Piece) → starts (a + 1) (joined_before a ps
 down-starts a [] = grind (arith, common_steps)
 down-starts a (p ∷ ps) = starts-here (grows_down a p) a p ps refl
 
-pub overwritten-down-runs : (place a : ℕ) (ps ps' : List Piece) →
+pub overwritten-down-continues : (place a : ℕ) (ps ps' : List Piece) →
     ps' ≡ overwritten_backward place a ps → place < length (addresses ps) → Solid ps →
     ContinuesBackward place (a + 1) ps'
-overwritten-down-runs place a ps ps' e lt s =
+overwritten-down-continues place a ps ps' e lt s =
     let n = length-addresses ps in
     let lt2 : place < total ps = omega (arith, n, lt) in
     let b = total-before place ps (omega (arith, lt2)) in
@@ -247,9 +247,9 @@ boundary place [] o = (refl, omega arith)
 boundary place (p ∷ ps) o =
     cut-boundary (nat_lt place p.len) place p ps refl o (λ q. boundary (place - p.len) ps q)
 
-pub down-length-runs : (place a : ℕ) (ps : List Piece) → place < total ps →
+pub down-length-continues : (place a : ℕ) (ps : List Piece) → place < total ps →
     ContinuesBackward (place + 1) a ps → length (overwritten_backward place a ps) ≤ length ps
-down-length-runs place a ps lt r =
+down-length-continues place a ps lt r =
     let k = boundary place ps r.begins in
     let g : starts a (behind 1 (behind place ps)) ≡ true = rw k.0 r.starts in
     let j : length (joined_before a (behind 1 (behind place ps))) ≡ length

@@ -3,7 +3,7 @@ pub mod AddressLemmas
 pub mod OneMoreLemmas
 pub mod BackwardLemmas
 pub mod SplicingLemmas
-pub mod RunLemmas
+pub mod PieceFromLemmas
 pub mod RepeatLemmas
 pub mod BorderLemmas
 pub mod SpanLemmas

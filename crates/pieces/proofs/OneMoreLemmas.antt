@@ -313,52 +313,52 @@ pub before-none : (ys : List Piece) → Solid ys → before 0 ys ≡ []
 before-none [] s = refl
 before-none (y ∷ ys) s = grind (arith, s.0)
 
-runs-past : (xs ys : List Piece) (a place : ℕ) → total xs ≡ place → Solid ys → ends a xs ≡ true →
+continues-past : (xs ys : List Piece) (a place : ℕ) → total xs ≡ place → Solid ys → ends a xs ≡ true →
     Continues place a (xs ++ ys)
-runs-past xs ys a place e s t =
+continues-past xs ys a place e s t =
     let z : total xs + 0 ≡ place = omega (arith, e) in
     let b : before place (xs ++ ys) ≡ xs =
     rw (before-past xs ys 0 place z, before-none ys s) (append-nil xs) in
     record { begins = rw (offset-past xs ys 0 place z) (offset-none ys s); ends = rw b t }
 
-pub overwritten-runs : (place a : ℕ) (ps : List Piece) → place < total ps → Solid ps →
+pub overwritten-continues : (place a : ℕ) (ps : List Piece) → place < total ps → Solid ps →
     Continues (place + 1) (a + 1) (overwritten place a ps)
-overwritten-runs place a ps lt s =
+overwritten-continues place a ps lt s =
     let b = total-before place ps (omega (arith, lt)) in
     let j = joined-total a (before place ps) in
-    runs-past (joined a (before place ps)) (behind 1 (behind place ps)) (a + 1) (place + 1)
+    continues-past (joined a (before place ps)) (behind 1 (behind place ps)) (a + 1) (place + 1)
     (omega (arith, b, j)) (solid-behind 1 (behind place ps) (solid-behind place ps s))
     (joined-ends a (before place ps))
 
-pub inserted-runs : (place a : ℕ) (ps : List Piece) → place ≤ total ps → Solid ps →
+pub inserted-continues : (place a : ℕ) (ps : List Piece) → place ≤ total ps → Solid ps →
     Continues (place + 1) (a + 1) (inserted place a ps)
-inserted-runs place a ps le s =
+inserted-continues place a ps le s =
     let b = total-before place ps le in
     let j = joined-total a (before place ps) in
-    runs-past (joined a (before place ps)) (behind place ps) (a + 1) (place + 1)
+    continues-past (joined a (before place ps)) (behind place ps) (a + 1) (place + 1)
     (omega (arith, b, j)) (solid-behind place ps s) (joined-ends a (before place ps))
 
-pub joined-runs : (a n : ℕ) (ps : List Piece) → n ≡ total ps →
+pub joined-continues : (a n : ℕ) (ps : List Piece) → n ≡ total ps →
     Continues (n + 1) (a + 1) (joined a ps)
-joined-runs a n ps e =
+joined-continues a n ps e =
     let j = joined-total a ps in
-    let r = runs-past (joined a ps) [] (a + 1) (n + 1) (omega (arith, e, j)) tt
+    let r = continues-past (joined a ps) [] (a + 1) (n + 1) (omega (arith, e, j)) tt
     (joined-ends a ps) in
     rw (append-nil (joined a ps)) at r
 
-pub overwritten-runs-at : (place a : ℕ) (ps ps' : List Piece) → ps' ≡ overwritten place a ps →
+pub overwritten-continues-at : (place a : ℕ) (ps ps' : List Piece) → ps' ≡ overwritten place a ps →
     place < length (addresses ps) → Solid ps → Continues (place + 1) (a + 1) ps'
-overwritten-runs-at place a ps ps' e lt s =
-    rw e (overwritten-runs place a ps (let n = length-addresses ps in omega (arith, lt, n)) s)
+overwritten-continues-at place a ps ps' e lt s =
+    rw e (overwritten-continues place a ps (let n = length-addresses ps in omega (arith, lt, n)) s)
 
-pub inserted-runs-at : (place a : ℕ) (ps ps' : List Piece) → ps' ≡ inserted place a ps →
+pub inserted-continues-at : (place a : ℕ) (ps ps' : List Piece) → ps' ≡ inserted place a ps →
     place ≤ length (addresses ps) → Solid ps → Continues (place + 1) (a + 1) ps'
-inserted-runs-at place a ps ps' e lt s =
-    rw e (inserted-runs place a ps (let n = length-addresses ps in omega (arith, lt, n)) s)
+inserted-continues-at place a ps ps' e lt s =
+    rw e (inserted-continues place a ps (let n = length-addresses ps in omega (arith, lt, n)) s)
 
-pub joined-runs-at : (a : ℕ) (ps ps' : List Piece) → ps' ≡ joined a ps →
+pub joined-continues-at : (a : ℕ) (ps ps' : List Piece) → ps' ≡ joined a ps →
     Continues (length (addresses ps) + 1) (a + 1) ps'
-joined-runs-at a ps ps' e = rw e (joined-runs a (length (addresses ps)) ps (length-addresses ps))
+joined-continues-at a ps ps' e = rw e (joined-continues a (length (addresses ps)) ps (length-addresses ps))
 
 pub inserted-steps : (place a k : ℕ) (ps xs ys : List Piece) → k ≡ length (before place ps) →
     xs ≡ split place ps → ys ≡ joined a (take k xs) ++ drop k xs → ys ≡ inserted place a ps
@@ -399,9 +399,9 @@ split-length : (place : ℕ) (ps : List Piece) → offset place ps ≡ 0 →
 split-length place ps o = let h = ap (λ t. length t) (split_same place ps o) in
     let e = length-append (before place ps) (behind place ps) in omega (arith, h, e)
 
-pub overwritten-length-runs : (place a : ℕ) (ps : List Piece) → Continues place a ps →
+pub overwritten-length-continues : (place a : ℕ) (ps : List Piece) → Continues place a ps →
     length (overwritten place a ps) ≤ length ps
-overwritten-length-runs place a ps r =
+overwritten-length-continues place a ps r =
     let g = r.ends in
     let j : length (joined a (before place ps)) ≡ length (before place ps) = let h =
     joined-length a (before place ps) in rw g at h in
@@ -417,9 +417,9 @@ inserted-length place a ps =
     let e = length-append (joined a (before place ps)) (behind place ps) in
     grind (arith, j, b, e)
 
-pub inserted-length-runs : (place a : ℕ) (ps : List Piece) → Continues place a ps →
+pub inserted-length-continues : (place a : ℕ) (ps : List Piece) → Continues place a ps →
     length (inserted place a ps) ≤ length ps
-inserted-length-runs place a ps r =
+inserted-length-continues place a ps r =
     let g = r.ends in
     let j : length (joined a (before place ps)) ≡ length (before place ps) = let h =
     joined-length a (before place ps) in rw g at h in
@@ -433,9 +433,9 @@ before-all ps =
     let e : before (total ps) (ps ++ []) ≡ ps = rw h (append-nil ps) in
     rw (append-nil ps) at e
 
-pub joined-length-runs : (place a : ℕ) (ps : List Piece) → place ≡ length (addresses ps) →
+pub joined-length-continues : (place a : ℕ) (ps : List Piece) → place ≡ length (addresses ps) →
     Continues place a ps → length (joined a ps) ≤ length ps
-joined-length-runs place a ps e r =
+joined-length-continues place a ps e r =
     let n = length-addresses ps in
     let z : place ≡ total ps = omega (arith, e, n) in
     let b : before place ps ≡ ps = rw z (before-all ps) in
@@ -444,24 +444,24 @@ joined-length-runs place a ps e r =
     let k : length (joined a ps) ≡ length ps = rw g at h in
     omega (arith, k)
 
-runs-kept-here : (b : Bool) (place : ℕ) (p : Piece) (ps qs : List Piece) → nat_lt place p.len ≡ b →
+continues-kept-here : (b : Bool) (place : ℕ) (p : Piece) (ps qs : List Piece) → nat_lt place p.len ≡ b →
     offset place (p ∷ ps) ≡ 0 → Solid qs →
     (offset (place - p.len) ps ≡ 0 → (offset (place - p.len) (ps ++ qs) ≡ 0)
     × (before (place - p.len) (ps ++ qs) ≡ before (place - p.len) ps)) →
     (offset place (p ∷ (ps ++ qs)) ≡ 0) × (before place (p ∷ (ps ++ qs)) ≡ before place (p ∷ ps))
-runs-kept-here true place p ps qs e o s f = let z : place ≡ 0 = rw e at o in rw e (z, refl)
-runs-kept-here false place p ps qs e o s f = let z : offset (place - p.len) ps ≡ 0 = rw e at o in
+continues-kept-here true place p ps qs e o s f = let z : place ≡ 0 = rw e at o in rw e (z, refl)
+continues-kept-here false place p ps qs e o s f = let z : offset (place - p.len) ps ≡ 0 = rw e at o in
     let k = f z in rw e (k.0, ap (λ t. p ∷ t) k.1)
 
-pub runs-kept : (place : ℕ) (ps qs : List Piece) → offset place ps ≡ 0 → Solid qs →
+pub continues-kept : (place : ℕ) (ps qs : List Piece) → offset place ps ≡ 0 → Solid qs →
     (offset place (ps ++ qs) ≡ 0) × (before place (ps ++ qs) ≡ before place ps)
-runs-kept place [] qs o s = let z : place ≡ 0 = o in rw z (offset-none qs s, before-none qs s)
-runs-kept place (p ∷ ps) qs o s = runs-kept-here (nat_lt place p.len) place p ps qs refl o s
-    (λ e. runs-kept (place - p.len) ps qs e s)
+continues-kept place [] qs o s = let z : place ≡ 0 = o in rw z (offset-none qs s, before-none qs s)
+continues-kept place (p ∷ ps) qs o s = continues-kept-here (nat_lt place p.len) place p ps qs refl o s
+    (λ e. continues-kept (place - p.len) ps qs e s)
 
-pub runs-extended : (place a : ℕ) (ps qs : List Piece) → Solid qs → Continues place a ps →
+pub continues-extended : (place a : ℕ) (ps qs : List Piece) → Solid qs → Continues place a ps →
     Continues place a (ps ++ qs)
-runs-extended place a ps qs s r = let k = runs-kept place ps qs r.begins s in
+continues-extended place a ps qs s r = let k = continues-kept place ps qs r.begins s in
     record { begins = k.0; ends = rw k.1 r.ends }
 
 -- one address less at an index
@@ -651,9 +651,9 @@ pub ruleset fills = (
   overwritten-solid,
   inserted-solid,
   joined-solid,
-  overwritten-runs-at,
-  inserted-runs-at,
-  joined-runs-at,
+  overwritten-continues-at,
+  inserted-continues-at,
+  joined-continues-at,
 )
 
 pub ruleset extended = (length-addresses, addresses-append, solid-append, total-append)

@@ -127,10 +127,10 @@ pub fn address_of(list: &[Piece], place: u32) -> u32
     address_from(list, Hint::front(), place)
 }
 
-/// The run of addresses from a place on, at most `count` of them, and no further than its piece
+/// The piece from a place on, at most `count` of them, and no further than its piece
 /// goes.
-#[tactic(auto, using(crate::proofs::RunLemmas::runs))]
-pub fn run_from(list: &[Piece], hint: Hint, place: u32, count: u32) -> Piece
+#[tactic(auto, using(crate::proofs::PieceFromLemmas::from_a_place))]
+pub fn piece_from(list: &[Piece], hint: Hint, place: u32, count: u32) -> Piece
     requires hint { IsHint list.now hint.piece hint.begin }
     requires place { place < total_of list.now }
     requires some { 1 ≤ count }

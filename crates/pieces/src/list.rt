@@ -140,7 +140,7 @@ impl PieceList {
         };
     }
 
-    /// Puts addresses in a row in place of those from a place on, as many as a run that goes on
+    /// Puts addresses in a row in place of those from a place on, as many as a streak that goes on
     /// takes from one piece, but not the last of them, and at most `count`. It says how many.
     #[tactic(auto, using(crate::proofs::OneMoreLemmas::lengths, crate::proofs::SpanLemmas::spans))]
     pub fn overwrite_span(&mut self, place: u32, address: u32, count: u32) -> u32

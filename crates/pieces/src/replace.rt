@@ -232,7 +232,7 @@ fn replace_one(pieces: &mut Vec<Piece>, hint: Hint, place: u32, address: u32) ->
     join(pieces, index, address)
 }
 
-/// The same. In a run that goes on, a border moves and nothing is sought.
+/// The same. In a streak that goes on, a border moves and nothing is sought.
 pub(crate) fn overwrite_vec(pieces: &mut Vec<Piece>, hint: Hint, place: u32, address: u32) -> usize
     requires hint { IsHint pieces.old.items hint.piece hint.begin }
     requires place { place < total_of pieces.old.items }
@@ -269,7 +269,7 @@ fn replace_one_backward(pieces: &mut Vec<Piece>, hint: Hint, place: u32, address
     index
 }
 
-/// The same. In a run that goes on, a border moves and nothing is sought.
+/// The same. In a streak that goes on, a border moves and nothing is sought.
 pub(crate) fn overwrite_vec_backward(
     pieces: &mut Vec<Piece>,
     hint: Hint,
@@ -309,7 +309,7 @@ fn insert_one(pieces: &mut Vec<Piece>, hint: Hint, place: u32, address: u32) -> 
     join(pieces, index, address)
 }
 
-/// The same. In a run that goes on, a piece grows and nothing is sought.
+/// The same. In a streak that goes on, a piece grows and nothing is sought.
 #[tactic(auto, using(crate::proofs::BorderLemmas::grown_at))]
 pub(crate) fn insert_vec(pieces: &mut Vec<Piece>, hint: Hint, place: u32, address: u32) -> usize
     requires hint { IsHint pieces.old.items hint.piece hint.begin }

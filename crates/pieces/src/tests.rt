@@ -78,7 +78,7 @@ fn pieces_are_repeated(rt: HostRuntime) -> Result<(), Fail> {
 }
 
 #[test]
-fn a_run_of_writes_adds_no_piece_after_its_first(rt: HostRuntime) -> Result<(), Fail> {
+fn a_streak_of_writes_adds_no_piece_after_its_first(rt: HostRuntime) -> Result<(), Fail> {
     let mut list = PieceList::new(rt.alloc(), 8).ok().ok_or("no memory")?;
     list.extend(&TWO_PIECES);
     list.overwrite(1, 40);
@@ -93,7 +93,7 @@ fn a_run_of_writes_adds_no_piece_after_its_first(rt: HostRuntime) -> Result<(), 
 }
 
 #[test]
-fn a_run_backward_adds_no_piece_after_its_first(rt: HostRuntime) -> Result<(), Fail> {
+fn a_streak_backward_adds_no_piece_after_its_first(rt: HostRuntime) -> Result<(), Fail> {
     let mut list = PieceList::new(rt.alloc(), 8).ok().ok_or("no memory")?;
     list.extend(&TWO_PIECES);
     list.seek(5);

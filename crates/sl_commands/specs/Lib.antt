@@ -1,4 +1,5 @@
 pub mod Verbs
+pub mod Modes
 pub mod Controls
 pub mod Commands
 pub mod Entries

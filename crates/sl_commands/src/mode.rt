@@ -1,5 +1,8 @@
 //! What a loop is doing, what can be seen of it, and how it writes.
 
+ghost use Rattle.std.specs.Prelude.{◌≡◌};
+ghost use Rattle.sl_commands.specs.Modes.{is_writing, is_mode_of};
+
 use crate::verb::Verb;
 
 /// What a loop is doing.
@@ -17,6 +20,41 @@ pub enum Mode {
     OneShot,
     Substituting,
     Paused,
+}
+
+impl Mode {
+    /// A frame of the input is written at each frame.
+    pub fn is_writing(self) -> bool
+        ensures { result ≡ is_writing self }
+    {
+        match self {
+            Mode::Recording => true,
+            Mode::Overdubbing => true,
+            Mode::Multiplying => true,
+            Mode::Inserting => true,
+            Mode::Replacing => true,
+            Mode::Substituting => true,
+            _ => false,
+        }
+    }
+
+    /// It is the mode of this verb.
+    pub fn is_of(self, verb: Verb) -> bool
+        ensures { result ≡ is_mode_of verb self }
+    {
+        match (verb, self) {
+            (Verb::Rec, Mode::Recording) => true,
+            (Verb::Overdub, Mode::Overdubbing) => true,
+            (Verb::Multiply, Mode::Multiplying) => true,
+            (Verb::Insert, Mode::Inserting) => true,
+            (Verb::Replace, Mode::Replacing) => true,
+            (Verb::Substitute, Mode::Substituting) => true,
+            (Verb::Mute, Mode::Muted) => true,
+            (Verb::Pause, Mode::Paused) => true,
+            (Verb::OneShot, Mode::OneShot) => true,
+            _ => false,
+        }
+    }
 }
 
 /// A verb that is held down, and the frame at which it was pressed.

@@ -52,7 +52,7 @@ pub fn opening(rt: &HostRuntime, layers: &mut Layers, pool: &mut Pool, times: u3
     best
 }
 
-/// A write of a new cell in a run, forward from a place on, each time `count` frames further on.
+/// A write of a new cell in a streak, forward from a place on, each time `count` frames further on.
 pub fn new_cells(
     rt: &HostRuntime,
     layers: &mut Layers,
@@ -104,7 +104,7 @@ pub fn fresh_cells(
     best
 }
 
-/// A write of a new cell in a run, backward before a place, each time `count` frames further down.
+/// A write of a new cell in a streak, backward before a place, each time `count` frames further down.
 pub fn new_cells_backward(
     rt: &HostRuntime,
     layers: &mut Layers,
@@ -131,7 +131,7 @@ pub fn new_cells_backward(
     best
 }
 
-/// A write of a cell before a place, in a run.
+/// A write of a cell before a place, in a streak.
 pub fn insertions(
     rt: &HostRuntime,
     layers: &mut Layers,

@@ -21,7 +21,7 @@ const READ: u32 = 65536;
 #[derive(Clone, Copy)]
 pub struct Size {
     pub frames: u32,
-    pub runs: u32,
+    pub streaks: u32,
     pub times: u32,
 }
 
@@ -56,7 +56,7 @@ fn written(rt: &HostRuntime, layers: &mut Layers, pool: &mut Pool, size: Size)
     ensures { IsWriting layers.new pool.new }
 {
     let half = size.frames / 2;
-    if !scatter(layers, pool, half, half / size.runs.max(1), size.runs) {
+    if !scatter(layers, pool, half, half / size.streaks.max(1), size.streaks) {
         return;
     }
     let count = (size.frames / 8 / size.times.max(1)).min(4096);
@@ -89,7 +89,7 @@ fn written(rt: &HostRuntime, layers: &mut Layers, pool: &mut Pool, size: Size)
     }
 }
 
-/// The first write of a run before all pieces, the mean of so many.
+/// The first write of a streak before all pieces, the mean of so many.
 fn begun(rt: &HostRuntime, layers: &mut Layers, pool: &mut Pool, from: u32, count: u32) -> u64
     requires { IsWriting layers.old pool.old }
     ensures { IsWriting layers.new pool.new }

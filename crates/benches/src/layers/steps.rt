@@ -1,4 +1,4 @@
-//! What is timed: openings, runs of writes, and reads, over layers and their pool.
+//! What is timed: openings, streaks of writes, and reads, over layers and their pool.
 
 ghost use Rattle.std.specs.Prelude.{◌≤◌, ◌<◌, IsFalse, IsTrue, length};
 ghost use Rattle.benches.specs.Phases.{IsIdle, IsWriting};
@@ -47,7 +47,7 @@ pub fn append(layers: &mut Layers, pool: &mut Pool, count: u32) -> bool
     requires { IsWriting layers.old pool.old }
     ensures { IsWriting layers.new pool.new }
 {
-    layers.break_run();
+    layers.break_streak();
     let first = layers.sizes().length;
     if first > MAX_LIST_FRAMES || count > MAX_LIST_FRAMES {
         return false;
@@ -65,7 +65,7 @@ pub fn forward(layers: &mut Layers, pool: &mut Pool, from: u32, count: u32) -> b
     requires { IsWriting layers.old pool.old }
     ensures { IsWriting layers.new pool.new }
 {
-    layers.break_run();
+    layers.break_streak();
     let length = layers.sizes().length;
     if from > length || count > length - from {
         return false;
@@ -83,7 +83,7 @@ pub fn backward(layers: &mut Layers, pool: &mut Pool, to: u32, count: u32) -> bo
     requires { IsWriting layers.old pool.old }
     ensures { IsWriting layers.new pool.new }
 {
-    layers.break_run();
+    layers.break_streak();
     let length = layers.sizes().length;
     if to > length || count >= to {
         return false;
@@ -101,7 +101,7 @@ pub fn insert(layers: &mut Layers, pool: &mut Pool, from: u32, count: u32) -> bo
     requires { IsWriting layers.old pool.old }
     ensures { IsWriting layers.new pool.new }
 {
-    layers.break_run();
+    layers.break_streak();
     let length = layers.sizes().length;
     if from >= length || length > MAX_LIST_FRAMES || count > MAX_LIST_FRAMES {
         return false;
@@ -114,7 +114,7 @@ pub fn insert(layers: &mut Layers, pool: &mut Pool, from: u32, count: u32) -> bo
     true
 }
 
-/// Writes single frames over those at places that lie `stride` apart, each as a run of its own.
+/// Writes single frames over those at places that lie `stride` apart, each as a streak of its own.
 pub fn scatter(layers: &mut Layers, pool: &mut Pool, from: u32, stride: u32, count: u32) -> bool
     requires { IsWriting layers.old pool.old }
     ensures { IsWriting layers.new pool.new }
@@ -125,7 +125,7 @@ pub fn scatter(layers: &mut Layers, pool: &mut Pool, from: u32, stride: u32, cou
         if place >= length || stride > MAX_LIST_FRAMES || length > MAX_LIST_FRAMES {
             return false;
         }
-        layers.break_run();
+        layers.break_streak();
         if !layers.write(pool, place, frame(i), How::Forward) {
             return false;
         }

@@ -10,15 +10,15 @@ use loop_strip::{Pool, Strip};
 use sl_base::Frame;
 use sl_commands::Verb;
 
-/// The frames of one span of a run over the list, where runs are written.
-const RUN: usize = 96;
+/// The frames of one span of a streak over the list, where streaks are written.
+const STREAK: usize = 96;
 
-/// Times a loop of so many runs over its list. `input` is one span, and so is `heard`.
+/// Times a loop of so many streaks over its list. `input` is one span, and so is `heard`.
 pub fn all(
     rt: &HostRuntime,
     strip: &mut Strip,
     pool: &mut Pool,
-    runs: u32,
+    streaks: u32,
     times: u32,
     input: &[Frame],
     heard: &mut [Frame],
@@ -27,7 +27,7 @@ pub fn all(
     requires same_length { length input.now ≡ length heard.old }
 {
     record(strip, pool, input, heard);
-    cut_up(strip, pool, runs);
+    cut_up(strip, pool, streaks);
     tell(rt, "play", played(rt, strip, pool, times, input, heard));
     hit(strip, pool, Verb::Reverse);
     tell(
@@ -39,21 +39,21 @@ pub fn all(
     overdubs(rt, strip, pool, times, input, heard);
 }
 
-/// Writes the runs over the list, each of a few spans of its own.
-fn cut_up(strip: &mut Strip, pool: &mut Pool, runs: u32)
+/// Writes the streaks over the list, each of a few spans of its own.
+fn cut_up(strip: &mut Strip, pool: &mut Pool, streaks: u32)
     requires owns { Owns strip.old pool.old }
     ensures { Owns strip.new pool.new }
 {
-    if runs == 0 {
+    if streaks == 0 {
         return;
     }
-    let input = [Frame::silence(); RUN];
-    let mut heard = [Frame::silence(); RUN];
+    let input = [Frame::silence(); STREAK];
+    let mut heard = [Frame::silence(); STREAK];
     scatter(
         strip,
         pool,
-        runs,
-        FRAMES / RUN as u32 / runs,
+        streaks,
+        FRAMES / STREAK as u32 / streaks,
         &input[..],
         &mut heard[..],
     );

@@ -23,7 +23,7 @@ pub fn play(strip: &mut Strip, pool: &mut Pool, spans: u32, input: &[Frame], hea
     ensures { Owns strip.new pool.new }
 {
     for _ in 0..spans {
-        strip.run(pool, input, heard);
+        strip.play(pool, input, heard);
     }
 }
 
@@ -46,11 +46,11 @@ pub fn spans(input: &[Frame]) -> u32 {
     FRAMES / input.len() as u32
 }
 
-/// An overdub of runs one behind the other: turning round twice ends a run.
+/// An overdub of streaks one behind the other: turning round twice ends a streak.
 pub fn scatter(
     strip: &mut Strip,
     pool: &mut Pool,
-    runs: u32,
+    streaks: u32,
     spans: u32,
     input: &[Frame],
     heard: &mut [Frame],
@@ -60,7 +60,7 @@ pub fn scatter(
     ensures { Owns strip.new pool.new }
 {
     hit(strip, pool, Verb::Overdub);
-    for _ in 0..runs {
+    for _ in 0..streaks {
         play(strip, pool, spans, input, heard);
         hit(strip, pool, Verb::Reverse);
         hit(strip, pool, Verb::Reverse);

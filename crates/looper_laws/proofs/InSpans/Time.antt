@@ -127,7 +127,7 @@ written_length : (fresh : Bool) (how : How) (place : ℕ) (x : Sound) (s : Stack
     ≡ current_length s.layers
 written_length true how place x s over = current_length-over how place x 0 s.layers over
 written_length false how place x s over =
-    current_length-over how place x (cond (is_some s.run) 0 2) s.layers over
+    current_length-over how place x (cond (is_some s.streak) 0 2) s.layers over
 
 layers_cycle : (how : How) (place : ℕ) (x : Sound) (seams : ℕ) (layers : List (Layer Sound)) →
     current_cycle (written_layers how place x seams layers) ≡ current_cycle layers
@@ -138,7 +138,7 @@ written_cycle : (fresh : Bool) (how : How) (place : ℕ) (x : Sound) (s : Stack 
     current_cycle (cond fresh (rewritten how place x s) (newly_written how place x s)).layers
     ≡ current_cycle s.layers
 written_cycle true how place x s = layers_cycle how place x 0 s.layers
-written_cycle false how place x s = layers_cycle how place x (cond (is_some s.run) 0 2) s.layers
+written_cycle false how place x s = layers_cycle how place x (cond (is_some s.streak) 0 2) s.layers
 
 -- closing a layer leaves its length, and its cycle where that is at least 1
 finished_length : (tape : ℕ) (layers : List (Layer Sound)) →

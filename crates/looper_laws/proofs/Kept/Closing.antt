@@ -13,7 +13,7 @@ use Rattle.looper_rules.specs.Loop.{Loop, is_writing, length_of, base_length_of}
 use Rattle.looper_rules.specs.Closing.{closing_cycle, closed_layer, finished_layer, finished, dropped, closes_as, closed_recording, multiply_cut, closed_from, closed}
 use Rattle.looper_rules.specs.States.{IsClosed, IsRecorded, IsOpenOver, AreClosed, HasCurrent, ArePlayable, InMode, AreWithin, AreOrdered, GoOnFrom}
 use Rattle.looper_rules.specs.Reached.{Unchanged, Keeps}
-use Rattle.looper_laws.proofs.Kept.Decks.{no_run}
+use Rattle.looper_laws.proofs.Kept.Decks.{no_streak}
 use Rattle.looper_laws.proofs.Kept.Layers.{length-unmarked, unmarked-unmarked, total_seams-cons, length-with_current}
 
 -- the cycle of a layer that closes: its length where it has none yet
@@ -140,12 +140,12 @@ closes_with :
     InMode mode layers l.stack.redo pos l.deck.backward →
     AreWithin l.stack.tape layers → length layers ≤ length l.stack.layers →
     total_seams layers ≤ total_seams l.stack.layers → AreOrdered layers → l.stack.redo ≡ [] →
-    Keeps a (closes_as mode pos (record l.stack { layers = layers; run = None }) l)
+    Keeps a (closes_as mode pos (record l.stack { layers = layers; streak = None }) l)
 closes_with {l = l} mode pos layers h in_mode within count seams order no_redo =
     record {
       loop = record {
         in_mode = in_mode;
-        run = no_run mode pos l.deck.backward;
+        streak = no_streak mode pos l.deck.backward;
         stack = record {
           layers_within = within;
           redo_within = h.loop.stack.redo_within;

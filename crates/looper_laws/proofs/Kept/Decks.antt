@@ -1,17 +1,17 @@
--- A loop keeps what it has to keep where only its deck, its run or its count of refusals changes.
+-- A loop keeps what it has to keep where only its deck, its streak or its count of refusals changes.
 use Rattle.std.proofs.Common.{◌≡◌, ℕ, ◌+◌, ◌≤◌, min, Option, None, Bool, refl, arith, ◌∙◌}
 use Rattle.sl_commands.specs.declared.Mode.{Mode}
 use Rattle.sl_commands.specs.declared.Mode.TheVariants.{Recording, Overdubbing, Multiplying, Inserting, Replacing, Substituting}
 use Rattle.sl_base.specs.Limits.{max_value}
 use Rattle.looper_rules.specs.Stack.{Stack, LastWrite}
 use Rattle.looper_rules.specs.Loop.{Deck, Loop, refused_once}
-use Rattle.looper_rules.specs.States.{InMode, IsRun, IsStack}
+use Rattle.looper_rules.specs.States.{InMode, IsStreak, IsStack}
 use Rattle.looper_rules.specs.Reached.{Unchanged, Keeps}
 
--- the limits of a stack say nothing of its run
-pub stack_in_run : {A : Type 0} {s : Stack A} (run : Option LastWrite) → IsStack s →
-    IsStack (record s { run = run })
-stack_in_run run h =
+-- the limits of a stack say nothing of its streak
+pub stack_in_streak : {A : Type 0} {s : Stack A} (streak : Option LastWrite) → IsStack s →
+    IsStack (record s { streak = streak })
+stack_in_streak streak h =
     record {
       layers_within = h.layers_within;
       redo_within = h.redo_within;
@@ -23,18 +23,18 @@ stack_in_run run h =
       redo_order = h.redo_order;
     }
 
--- another deck and another run
+-- another deck and another streak
 pub with_deck :
-    {A : Type 0} {a : Unchanged} {l : Loop A} (d : Deck) (run : Option LastWrite) → Keeps a l →
+    {A : Type 0} {a : Unchanged} {l : Loop A} (d : Deck) (streak : Option LastWrite) → Keeps a l →
     InMode d.mode l.stack.layers l.stack.redo d.pos d.backward →
-    IsRun d.mode run d.pos d.backward → d.press ≡ l.deck.press →
-    Keeps a (record l { deck = d; stack = record l.stack { run = run } })
-with_deck d run h in_mode goes press =
+    IsStreak d.mode streak d.pos d.backward → d.press ≡ l.deck.press →
+    Keeps a (record l { deck = d; stack = record l.stack { streak = streak } })
+with_deck d streak h in_mode goes press =
     record {
       loop = record {
         in_mode = in_mode;
-        run = goes;
-        stack = stack_in_run run h.loop.stack;
+        streak = goes;
+        stack = stack_in_streak streak h.loop.stack;
         refused = h.loop.refused;
       };
       reach = h.reach;
@@ -50,7 +50,7 @@ refused_keeps {l = l} h =
     record {
       loop = record {
         in_mode = h.loop.in_mode;
-        run = h.loop.run;
+        streak = h.loop.streak;
         stack = h.loop.stack;
         refused = (let at_most : min (l.refused + 1) max_value ≤ max_value = omega arith in
             at_most);
@@ -61,12 +61,12 @@ refused_keeps {l = l} h =
       press = h.press;
     }
 
--- where no run goes on, none has to be told
-pub no_run : (mode : Mode) (pos : ℕ) (backward : Bool) → IsRun mode None pos backward
-no_run Recording pos backward = tt
-no_run Overdubbing pos backward = tt
-no_run Multiplying pos backward = tt
-no_run Inserting pos backward = tt
-no_run Replacing pos backward = tt
-no_run Substituting pos backward = tt
-no_run _ pos backward = refl
+-- where no streak goes on, none has to be told
+pub no_streak : (mode : Mode) (pos : ℕ) (backward : Bool) → IsStreak mode None pos backward
+no_streak Recording pos backward = tt
+no_streak Overdubbing pos backward = tt
+no_streak Multiplying pos backward = tt
+no_streak Inserting pos backward = tt
+no_streak Replacing pos backward = tt
+no_streak Substituting pos backward = tt
+no_streak _ pos backward = refl

@@ -22,9 +22,8 @@ use Rattle.looper_rules.specs.Looper.{Asker, Track, Looper, tape_of, free_of, sw
 use Rattle.looper_rules.specs.Saves.{pinned_for, loop_released, session_released, session_refusal}
 use Rattle.looper_rules.specs.Entries.{is_taken, sets, asker_of, refusal_at, saves_loop, saves_session, releases, performed, applied}
 use Rattle.looper_rules.specs.States.{IsLooper}
-use Rattle.looper_rules.specs.Reached.{KeepsTrack}
 use Rattle.looper_laws.proofs.Kept.Presses.{given_keeps, pressed_keeps, released_keeps}
-use Rattle.looper_laws.proofs.Kept.Tracks.{own, track_of_loop, loop_of_track, KeepsTracks, on_loop_keeps, AreKept, swept_keeps, at_index_keeps, mapped_keeps, in_reach, are_tracks}
+use Rattle.looper_laws.proofs.Kept.Tracks.{own, track_of_loop, loop_of_track, KeepsTrack, KeepsTracks, on_loop_keeps, AreKept, swept_keeps, at_index_keeps, mapped_keeps, in_reach, are_tracks}
 use Rattle.looper_laws.proofs.Kept.Saves.{pinned_for_keeps, loop_released_keeps, session_released_keeps, session_released_tape}
 use Rattle.looper_laws.proofs.Kept.Settings.{set_keeps, set_global_keeps}
 
@@ -122,7 +121,7 @@ sets_on frame loops control value e reach t h =
     (record {
       loop = record {
         in_mode = k.loop.in_mode;
-        run = k.loop.run;
+        streak = k.loop.streak;
         stack = k.loop.stack;
         refused = k.loop.refused;
       };

@@ -6,12 +6,12 @@ use Rattle.sl_commands.specs.declared.Mode.TheVariants.{Off, WaitStart, Recordin
 use Rattle.looper_rules.specs.Layers.{Layer}
 use Rattle.looper_rules.specs.Loop.{Loop, is_writing, is_off}
 use Rattle.looper_rules.specs.History.{closed_if, settled, stepped_back, undo, redo, undo_each, undo_all, redo_each, redo_all}
-use Rattle.looper_rules.specs.States.{AreClosed, InMode, IsRun}
+use Rattle.looper_rules.specs.States.{AreClosed, InMode, IsStreak}
 use Rattle.looper_rules.specs.Reached.{Unchanged, Keeps}
 use Rattle.looper_laws.proofs.Kept.Decks.{with_deck}
 use Rattle.looper_laws.proofs.Kept.Layers.{total_seams-cons}
 use Rattle.looper_laws.proofs.Kept.Closing.{closed_keeps, closed_leads, IsClosedMode}
-use Rattle.looper_laws.proofs.Kept.Rest.{closed_layers, closed_redo, quiet_run, run_in_quiet, in_quiet}
+use Rattle.looper_laws.proofs.Kept.Rest.{closed_layers, closed_redo, quiet_streak, streak_in_quiet, in_quiet}
 
 -- the loop in this mode, with these layers and redo layers
 abbrev pub so : {A : Type 0} → Mode → List (Layer A) → List (Layer A) → Loop A → Loop A
@@ -34,13 +34,13 @@ moved mode pos layers redo l = record l {
 goes_back :
     {A : Type 0} {a : Unchanged} (l : Loop A) (mode now : Mode) (pos : ℕ) (x : Layer A)
     (xs redo : List (Layer A)) → Keeps a (so mode (x ∷ xs) redo l) →
-    InMode now xs (x ∷ redo) pos l.deck.backward → IsRun now l.stack.run pos l.deck.backward →
+    InMode now xs (x ∷ redo) pos l.deck.backward → IsStreak now l.stack.streak pos l.deck.backward →
     Keeps a (moved now pos xs (x ∷ redo) l)
-goes_back l mode now pos x xs redo h in_mode run =
+goes_back l mode now pos x xs redo h in_mode streak =
     record {
       loop = record {
         in_mode = in_mode;
-        run = run;
+        streak = streak;
         stack = record {
           layers_within = h.loop.stack.layers_within.1;
           redo_within = (h.loop.stack.layers_within.0, h.loop.stack.redo_within);
@@ -64,13 +64,13 @@ comes_back :
     {A :
     Type 0} {a : Unchanged} (l : Loop A) (mode now : Mode) (pos : ℕ) (layers : List (Layer A))
     (x : Layer A) (xs : List (Layer A)) → Keeps a (so mode layers (x ∷ xs) l) →
-    InMode now (x ∷ layers) xs pos l.deck.backward → IsRun now l.stack.run pos l.deck.backward →
+    InMode now (x ∷ layers) xs pos l.deck.backward → IsStreak now l.stack.streak pos l.deck.backward →
     Keeps a (moved now pos (x ∷ layers) xs l)
-comes_back l mode now pos layers x xs h in_mode run =
+comes_back l mode now pos layers x xs h in_mode streak =
     record {
       loop = record {
         in_mode = in_mode;
-        run = run;
+        streak = streak;
         stack = record {
           layers_within = (h.loop.stack.redo_within.0, h.loop.stack.layers_within);
           redo_within = h.loop.stack.redo_within.1;
@@ -103,9 +103,9 @@ steps_back :
     is_writing mode ≡ false →
     Keeps a (so mode layers redo l) → Keeps a (stepped_back (so mode layers redo l))
 steps_back l mode [] redo quiet h =
-    with_deck (record l.deck { mode = Off; pos = 0 }) l.stack.run h
+    with_deck (record l.deck { mode = Off; pos = 0 }) l.stack.streak h
     ((refl, refl), closed_redo mode [] redo l.deck.pos l.deck.backward quiet h.loop.in_mode)
-    (quiet_run mode l.stack.run l.deck.pos l.deck.backward quiet h.loop.run)
+    (quiet_streak mode l.stack.streak l.deck.pos l.deck.backward quiet h.loop.streak)
     refl
 steps_back l mode (x ∷ []) redo quiet h =
     let closed : AreClosed (x ∷ []) =
@@ -117,12 +117,12 @@ steps_back l mode (x ∷ []) redo quiet h =
         closed_redo mode (x ∷ []) redo l.deck.pos l.deck.backward quiet h.loop.in_mode,
       ),
     )
-    (quiet_run mode l.stack.run l.deck.pos l.deck.backward quiet h.loop.run)
+    (quiet_streak mode l.stack.streak l.deck.pos l.deck.backward quiet h.loop.streak)
 steps_back l mode (x ∷ y ∷ ys) redo quiet h =
     let closed : AreClosed (x ∷ y ∷ ys) =
     closed_layers mode (x ∷ y ∷ ys) redo l.deck.pos l.deck.backward quiet h.loop.in_mode
-    in let none : l.stack.run ≡ None =
-    quiet_run mode l.stack.run l.deck.pos l.deck.backward quiet h.loop.run
+    in let none : l.stack.streak ≡ None =
+    quiet_streak mode l.stack.streak l.deck.pos l.deck.backward quiet h.loop.streak
     in goes_back l mode mode (l.deck.pos % length y.cells) x (y ∷ ys) redo h
     (in_quiet mode y ys (x ∷ redo) (l.deck.pos % length y.cells) l.deck.backward quiet
     (on mode x (y ∷ ys) redo l.deck.pos l.deck.backward h.loop.in_mode)
@@ -130,7 +130,7 @@ steps_back l mode (x ∷ y ∷ ys) redo quiet h =
       closed.0,
       closed_redo mode (x ∷ y ∷ ys) redo l.deck.pos l.deck.backward quiet h.loop.in_mode,
     ))
-    (run_in_quiet mode l.stack.run (l.deck.pos % length y.cells) l.deck.backward quiet none)
+    (streak_in_quiet mode l.stack.streak (l.deck.pos % length y.cells) l.deck.backward quiet none)
 
 -- closing leads out of the writing modes
 pub closed_is_quiet : (mode : Mode) → IsClosedMode mode → is_writing mode ≡ false
@@ -183,7 +183,7 @@ back_from_off l layers x xs h =
       ),
       h.loop.in_mode.1.1,
     )
-    h.loop.run
+    h.loop.streak
 
 -- and in another mode
 back_elsewhere :
@@ -196,14 +196,14 @@ back_elsewhere l mode layers x xs is_on h =
     no_redo mode layers x xs l.deck.pos l.deck.backward h.loop.in_mode
     in let redo : AreClosed (x ∷ xs) =
     closed_redo mode layers (x ∷ xs) l.deck.pos l.deck.backward quiet h.loop.in_mode
-    in let none : l.stack.run ≡ None =
-    quiet_run mode l.stack.run l.deck.pos l.deck.backward quiet h.loop.run
+    in let none : l.stack.streak ≡ None =
+    quiet_streak mode l.stack.streak l.deck.pos l.deck.backward quiet h.loop.streak
     in comes_back l mode mode (l.deck.pos % length x.cells) layers x xs h
     (in_quiet mode x layers xs (l.deck.pos % length x.cells) l.deck.backward quiet is_on (
       (redo.0, closed_layers mode layers (x ∷ xs) l.deck.pos l.deck.backward quiet h.loop.in_mode),
       mod-lt l.deck.pos redo.0.not_empty,
     ) redo.1)
-    (run_in_quiet mode l.stack.run (l.deck.pos % length x.cells) l.deck.backward quiet none)
+    (streak_in_quiet mode l.stack.streak (l.deck.pos % length x.cells) l.deck.backward quiet none)
 
 -- redo, by the mode and the redo layers
 redoes :

@@ -10,16 +10,16 @@ use Rattle.sl_commands.specs.declared.How.TheVariants.{Forward, Backward, Insert
 use Rattle.sl_commands.specs.declared.Started.{Started}
 use Rattle.sl_commands.specs.declared.Started.TheVariants.{Ok}
 use Rattle.looper_rules.specs.Layers.{Layer, current_length, current_list}
-use Rattle.looper_rules.specs.Stack.{LastWrite, run_broken}
+use Rattle.looper_rules.specs.Stack.{LastWrite, streak_broken}
 use Rattle.looper_rules.specs.Opening.{opening}
 use Rattle.looper_rules.specs.Writing.{overwrites, meets_fresh, new_cell_fits, rewritten, newly_written, written, extension_fits}
 use Rattle.looper_rules.specs.Loop.{Loop, is_writing, length_of, at_place, refused_once, with_stack}
 use Rattle.looper_rules.specs.Closing.{closed, at_stop}
 use Rattle.looper_rules.specs.Starting.{records}
 use Rattle.looper_rules.specs.LoopFrame.{wakes_as, awake_in, awake, stopped, extends, ready_in, ready, sound_at, new_frame, how_in, fits, wraps, wrapped_place, next_place, wrapped_mode, goes_on, stops_if, advanced, overrun_in, writes, passes, after}
-use Rattle.looper_rules.specs.States.{IsRecorded, IsOpenOver, AreWritten, InMode, IsBehind, GoesOn, IsRun}
+use Rattle.looper_rules.specs.States.{IsRecorded, IsOpenOver, AreWritten, InMode, IsBehind, GoesOn, IsStreak}
 use Rattle.looper_rules.specs.Reached.{Unchanged, Keeps}
-use Rattle.looper_laws.proofs.Kept.Decks.{with_deck, refused_keeps, no_run}
+use Rattle.looper_laws.proofs.Kept.Decks.{with_deck, refused_keeps, no_streak}
 use Rattle.looper_laws.proofs.Kept.Opening.{opens_record}
 use Rattle.looper_laws.proofs.Kept.Closing.{closed_keeps, closed_leads, IsClosedMode}
 use Rattle.looper_laws.proofs.Kept.Rest.{closed_layers, IsResting, rests_again, resting_inside}
@@ -135,11 +135,11 @@ wrapped_rests Muted moves = tt
 wrapped_rests OneShot moves = tt
 wrapped_rests _ moves = absurd moves
 
--- the run of a stack broken
+-- the streak of a stack broken
 broken_keeps : {A : Type 0} {a : Unchanged} {l : Loop A} → Keeps a l →
-    Keeps a (with_stack (run_broken l.stack) l)
+    Keeps a (with_stack (streak_broken l.stack) l)
 broken_keeps {l = l} h =
-    with_deck l.deck None h h.loop.in_mode (no_run l.deck.mode l.deck.pos l.deck.backward) refl
+    with_deck l.deck None h h.loop.in_mode (no_streak l.deck.mode l.deck.pos l.deck.backward) refl
 
 -- going on in these modes
 moves_on :
@@ -189,11 +189,11 @@ abbrev pub IsLastWrite : Option LastWrite → ℕ → How → Type 0
 IsLastWrite None place how = ⊤
 IsLastWrite (Some last) place how = (last.place ≡ place) × (last.how ≡ how)
 
--- a run that goes on to the place behind
+-- a streak that goes on to the place behind
 goes_on_to :
-    (run : Option LastWrite) (mode : Mode) (place pos : ℕ) (backward : Bool) →
-    IsLastWrite run place (how_in mode backward) →
-    IsBehind (how_in mode backward) place pos → GoesOn run mode pos backward
+    (streak : Option LastWrite) (mode : Mode) (place pos : ℕ) (backward : Bool) →
+    IsLastWrite streak place (how_in mode backward) →
+    IsBehind (how_in mode backward) place pos → GoesOn streak mode pos backward
 goes_on_to None mode place pos backward last behind = tt
 goes_on_to (Some w) mode place pos backward last behind = (
   last.1,
@@ -243,29 +243,29 @@ overwritten Replacing layers redo pos backward is h = h
 overwritten Substituting layers redo pos backward is h = h
 overwritten _ layers redo pos backward is h = absurd is
 
-run_overwriting :
-    (mode : Mode) (run : Option LastWrite) (pos : ℕ) (backward : Bool) → IsOverwriting mode →
-    GoesOn run mode pos backward →
-    IsRun mode run pos backward
-run_overwriting Overdubbing run pos backward is h = h
-run_overwriting Replacing run pos backward is h = h
-run_overwriting Substituting run pos backward is h = h
-run_overwriting _ run pos backward is h = absurd is
+streak_overwriting :
+    (mode : Mode) (streak : Option LastWrite) (pos : ℕ) (backward : Bool) → IsOverwriting mode →
+    GoesOn streak mode pos backward →
+    IsStreak mode streak pos backward
+streak_overwriting Overdubbing streak pos backward is h = h
+streak_overwriting Replacing streak pos backward is h = h
+streak_overwriting Substituting streak pos backward is h = h
+streak_overwriting _ streak pos backward is h = absurd is
 
 -- the manner of a write over a list, in this direction
 abbrev pub directed : Bool → How
 directed backward = if backward then Backward else Forward
 
 module _ {A : Type 0} (a : Unchanged) (l : Loop A) (x : A) (seams tape : ℕ)
-    (run : Option LastWrite) where
+    (streak : Option LastWrite) where
   -- the loop with its stack written, before it goes on
   abbrev pub over : Mode → How → Loop A
-  over mode how = with_stack (written_stack how l.deck.pos x seams tape run l.stack) (set_to mode l)
+  over mode how = with_stack (written_stack how l.deck.pos x seams tape streak l.stack) (set_to mode l)
 
   -- a Recording with one frame more
   recording_writes :
       Keeps a (set_to Recording l) → Writes a Append l.deck.pos l.stack seams tape →
-      IsLastWrite run l.deck.pos Append →
+      IsLastWrite streak l.deck.pos Append →
       Keeps a (advanced (over Recording Append))
   recording_writes h w last =
       let longer : current_length (written_layers Append l.deck.pos x seams l.stack.layers)
@@ -277,13 +277,13 @@ module _ {A : Type 0} (a : Unchanged) (l : Loop A) (x : A) (seams tape : ℕ)
         pos =
             current_length (written_layers Append l.deck.pos x seams l.stack.layers);
       }) Append
-      l.deck.pos x seams tape run h w h.loop.in_mode.1 refl (
+      l.deck.pos x seams tape streak h w h.loop.in_mode.1 refl (
         still_recorded Append l.deck.pos x seams l.stack.layers h.loop.in_mode.0,
         h.loop.in_mode.1,
         refl,
         h.loop.in_mode.3,
       )
-      (goes_on_to run Recording l.deck.pos
+      (goes_on_to streak Recording l.deck.pos
       (current_length (written_layers Append l.deck.pos x seams l.stack.layers)) l.deck.backward
       last (let next : current_length (written_layers Append l.deck.pos x seams l.stack.layers)
       ≡ l.deck.pos + 1 = omega arith in next))
@@ -298,7 +298,7 @@ module _ {A : Type 0} (a : Unchanged) (l : Loop A) (x : A) (seams tape : ℕ)
   -- an Inserting with one frame more
   inserting_writes :
       Keeps a (set_to Inserting l) → Writes a Insert l.deck.pos l.stack seams tape →
-      IsLastWrite run l.deck.pos Insert →
+      IsLastWrite streak l.deck.pos Insert →
       Keeps a (advanced (over Inserting Insert))
   inserting_writes h w last =
       let longer : current_length (written_layers Insert l.deck.pos x seams l.stack.layers)
@@ -307,7 +307,7 @@ module _ {A : Type 0} (a : Unchanged) (l : Loop A) (x : A) (seams tape : ℕ)
       in let inside : l.deck.pos < current_length l.stack.layers = h.loop.in_mode.0.2
       in stops_keeps l.deck.rounding (at_place (l.deck.pos + 1) (over Inserting Insert)) refl
       (wrote (record l.deck { mode = Inserting; pos = l.deck.pos + 1 }) Insert l.deck.pos x seams
-      tape run h w h.loop.in_mode.0.1 refl (
+      tape streak h w h.loop.in_mode.0.1 refl (
         (
           still_open Insert l.deck.pos x seams l.stack.layers w.inside h.loop.in_mode.0.0,
           h.loop.in_mode.0.1,
@@ -317,13 +317,13 @@ module _ {A : Type 0} (a : Unchanged) (l : Loop A) (x : A) (seams tape : ℕ)
         ),
         h.loop.in_mode.1,
       )
-      (goes_on_to run Inserting l.deck.pos (l.deck.pos + 1) l.deck.backward last refl))
+      (goes_on_to streak Inserting l.deck.pos (l.deck.pos + 1) l.deck.backward last refl))
 
   -- a Multiplying with one frame written
   multiplying_writes :
       Keeps a (set_to Multiplying l) → l.deck.pos < length_of l →
       Writes a (how_in Multiplying l.deck.backward) l.deck.pos l.stack seams tape →
-      IsLastWrite run l.deck.pos (how_in Multiplying l.deck.backward) →
+      IsLastWrite streak l.deck.pos (how_in Multiplying l.deck.backward) →
       Keeps a (advanced (over Multiplying (how_in Multiplying l.deck.backward)))
   multiplying_writes h inside w last =
       let same : current_length
@@ -333,7 +333,7 @@ module _ {A : Type 0} (a : Unchanged) (l : Loop A) (x : A) (seams tape : ℕ)
       in stops_keeps l.deck.rounding
       (at_place (l.deck.pos + 1) (over Multiplying (how_in Multiplying l.deck.backward))) refl
       (wrote (record l.deck { mode = Multiplying; pos = l.deck.pos + 1 })
-      (how_in Multiplying l.deck.backward) l.deck.pos x seams tape run h w h.loop.in_mode.1 refl (
+      (how_in Multiplying l.deck.backward) l.deck.pos x seams tape streak h w h.loop.in_mode.1 refl (
         still_open (how_in Multiplying l.deck.backward) l.deck.pos x seams l.stack.layers w.inside
             h.loop.in_mode.0,
         h.loop.in_mode.1,
@@ -343,7 +343,7 @@ module _ {A : Type 0} (a : Unchanged) (l : Loop A) (x : A) (seams tape : ℕ)
             l.stack.layers) = omega arith in next),
         h.loop.in_mode.3,
       )
-      (goes_on_to run Multiplying l.deck.pos (l.deck.pos + 1) l.deck.backward last
+      (goes_on_to streak Multiplying l.deck.pos (l.deck.pos + 1) l.deck.backward last
       (forward_behind l.deck.backward l.deck.pos h.loop.in_mode.3)))
 
   -- the layers after a write over the list
@@ -371,7 +371,7 @@ module _ {A : Type 0} (a : Unchanged) (l : Loop A) (x : A) (seams tape : ℕ)
         now.1,
         inside,
       ))
-      (run_overwriting mode goes pos l.deck.backward is on)
+      (streak_overwriting mode goes pos l.deck.backward is on)
 
   -- the place behind a wrap, and the next place without one
   over_inside : (mode : Mode) → IsOverwriting mode → Keeps a (set_to mode l) →
@@ -391,7 +391,7 @@ module _ {A : Type 0} (a : Unchanged) (l : Loop A) (x : A) (seams tape : ℕ)
       Mode) (round : Bool) → wraps l.deck.backward l.deck.pos (current_length over_layers) ≡ round →
       IsOverwriting mode → Keeps a (set_to mode l) →
       Writes a (directed l.deck.backward) l.deck.pos l.stack seams tape →
-      IsLastWrite run l.deck.pos (directed l.deck.backward) →
+      IsLastWrite streak l.deck.pos (directed l.deck.backward) →
       Keeps a (goes_on round (over mode (directed l.deck.backward)))
   overwriting_goes Overdubbing true e is h w last =
       overwrites_to Overdubbing (wrapped_place l.deck.backward (current_length over_layers)) None tt
@@ -406,23 +406,23 @@ module _ {A : Type 0} (a : Unchanged) (l : Loop A) (x : A) (seams tape : ℕ)
       tt h w (wrapped_inside l.deck.backward l.deck.pos (current_length over_layers)
       (over_inside Substituting tt h)) tt
   overwriting_goes Overdubbing false e is h w last =
-      overwrites_to Overdubbing (next_place l.deck.backward l.deck.pos) run tt h w
+      overwrites_to Overdubbing (next_place l.deck.backward l.deck.pos) streak tt h w
       (next_inside l.deck.backward l.deck.pos (current_length over_layers)
       (over_inside Overdubbing tt h) e)
-      (goes_on_to run Overdubbing l.deck.pos (next_place l.deck.backward l.deck.pos)
+      (goes_on_to streak Overdubbing l.deck.pos (next_place l.deck.backward l.deck.pos)
       l.deck.backward last
       (directed_behind l.deck.backward l.deck.pos (current_length over_layers) e))
   overwriting_goes Replacing false e is h w last =
-      overwrites_to Replacing (next_place l.deck.backward l.deck.pos) run tt h w
+      overwrites_to Replacing (next_place l.deck.backward l.deck.pos) streak tt h w
       (next_inside l.deck.backward l.deck.pos (current_length over_layers)
       (over_inside Replacing tt h) e)
-      (goes_on_to run Replacing l.deck.pos (next_place l.deck.backward l.deck.pos) l.deck.backward
+      (goes_on_to streak Replacing l.deck.pos (next_place l.deck.backward l.deck.pos) l.deck.backward
       last (directed_behind l.deck.backward l.deck.pos (current_length over_layers) e))
   overwriting_goes Substituting false e is h w last =
-      overwrites_to Substituting (next_place l.deck.backward l.deck.pos) run tt h w
+      overwrites_to Substituting (next_place l.deck.backward l.deck.pos) streak tt h w
       (next_inside l.deck.backward l.deck.pos (current_length over_layers)
       (over_inside Substituting tt h) e)
-      (goes_on_to run Substituting l.deck.pos (next_place l.deck.backward l.deck.pos)
+      (goes_on_to streak Substituting l.deck.pos (next_place l.deck.backward l.deck.pos)
       l.deck.backward last
       (directed_behind l.deck.backward l.deck.pos (current_length over_layers) e))
   overwriting_goes _ round e is h w last = absurd is
@@ -431,7 +431,7 @@ module _ {A : Type 0} (a : Unchanged) (l : Loop A) (x : A) (seams tape : ℕ)
   writes_on :
       (mode : Mode) → is_writing mode ≡ true → IsReady a (set_to mode l) →
       Writes a (how_in mode l.deck.backward) l.deck.pos l.stack seams tape →
-      IsLastWrite run l.deck.pos (how_in mode l.deck.backward) →
+      IsLastWrite streak l.deck.pos (how_in mode l.deck.backward) →
       Keeps a (advanced (over mode (how_in mode l.deck.backward)))
   writes_on Recording writing h w last = recording_writes h.0 w last
   writes_on Inserting writing h w last = inserting_writes h.0 w last
@@ -478,7 +478,7 @@ written_keeps {a = a} {l = l} x writing h e =
     (newly_written how l.deck.pos x l.stack) (λ s. Keeps a (advanced (with_stack s l)))
     (λ meets. writes_on a l x 0 l.stack.tape None l.deck.mode writing h
     (fresh_fits how l.deck.pos h.0 inside meets) tt)
-    (λ none. writes_on a l x (if is_some l.stack.run then 0 else 2) (l.stack.tape + 1)
+    (λ none. writes_on a l x (if is_some l.stack.streak then 0 else 2) (l.stack.tape + 1)
     (Some (record { place = l.deck.pos; how = how })) l.deck.mode writing h
     (new_fits how l.deck.pos h.0 inside
     (new_cell (meets_fresh how l.deck.pos l.stack) (new_cell_fits a.reach how l.stack) e none))

@@ -14,7 +14,7 @@ use Rattle.looper_rules.specs.Loop.{Loop}
 use Rattle.looper_rules.specs.Starting.{records, layers_on, starts}
 use Rattle.looper_rules.specs.States.{IsOpenOver, AreClosed, ArePlayable, AreWritten, InMode, AreWithin, AreOrdered, IsStack}
 use Rattle.looper_rules.specs.Reached.{Unchanged, Keeps, IsLayering}
-use Rattle.looper_laws.proofs.Kept.Decks.{refused_keeps, no_run}
+use Rattle.looper_laws.proofs.Kept.Decks.{refused_keeps, no_streak}
 use Rattle.looper_laws.proofs.Kept.Layers.{length-unmarked, total_seams-cons, chunks_of_le, current_end_within, ordered_within}
 
 -- an opening that isn't refused has a layer and seams left
@@ -121,7 +121,7 @@ opens_record {l = l} reach h closed ok =
           refl,
           refl,
         );
-        run = tt;
+        streak = tt;
         stack = opened_stack reach true l.stack h.loop.stack ok;
         refused =
             h.loop.refused;
@@ -160,7 +160,7 @@ opens_over {l = l} reach mode way h playable ok =
             in_mode =
                 written_in mode (opened false l.stack).layers [] l.deck.pos l.deck.backward way
                 ((copied.0, playable.0), refl, copied.1);
-            run = no_run mode l.deck.pos l.deck.backward;
+            streak = no_streak mode l.deck.pos l.deck.backward;
             stack = opened_stack reach false l.stack h.loop.stack ok;
             refused = h.loop.refused;
           };

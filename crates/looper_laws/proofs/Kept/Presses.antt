@@ -20,7 +20,7 @@ with_press_of press a = record a { press = press }
 with_waiting_keeps : {A : Type 0} {a : Unchanged} {l : Loop A} (verb : Option Verb) → Keeps a l →
     Keeps a (with_waiting verb l)
 with_waiting_keeps {l = l} verb h =
-    with_deck (record l.deck { waiting = verb }) l.stack.run h h.loop.in_mode h.loop.run refl
+    with_deck (record l.deck { waiting = verb }) l.stack.streak h h.loop.in_mode h.loop.streak refl
 
 -- another press
 with_press_keeps : {A : Type 0} {a : Unchanged} {l : Loop A} (press : Option Held) → Keeps a l →
@@ -29,7 +29,7 @@ with_press_keeps press h =
     record {
       loop = record {
         in_mode = h.loop.in_mode;
-        run = h.loop.run;
+        streak = h.loop.streak;
         stack = h.loop.stack;
         refused = h.loop.refused;
       };

@@ -6,7 +6,7 @@ use Rattle.sl_commands.specs.declared.Mode.TheVariants.{Off, WaitStart, Recordin
 use Rattle.looper_rules.specs.Layers.{Layer}
 use Rattle.looper_rules.specs.Stack.{LastWrite}
 use Rattle.looper_rules.specs.Loop.{Loop, is_writing, is_off, length_of}
-use Rattle.looper_rules.specs.States.{AreClosed, ArePlayable, AreWaiting, InMode, IsRun}
+use Rattle.looper_rules.specs.States.{AreClosed, ArePlayable, AreWaiting, InMode, IsStreak}
 use Rattle.looper_rules.specs.Reached.{Unchanged, Keeps}
 use Rattle.looper_laws.proofs.Kept.Decks.{with_deck}
 
@@ -61,30 +61,30 @@ waiting_layers Substituting layers redo pos backward quiet h = absurd (not_both 
 waiting_layers _ [] redo pos backward quiet h = absurd (let none : ⊥ = omega arith in none)
 waiting_layers _ (l ∷ ls) redo pos backward quiet h = h.0
 
--- no run goes on there
-pub quiet_run :
-    (mode : Mode) (run : Option LastWrite) (pos : ℕ) (backward : Bool) → is_writing mode ≡ false →
-    IsRun mode run pos backward →
-    run ≡ None
-quiet_run Recording run pos backward quiet h = absurd (not_both true refl quiet)
-quiet_run Overdubbing run pos backward quiet h = absurd (not_both true refl quiet)
-quiet_run Multiplying run pos backward quiet h = absurd (not_both true refl quiet)
-quiet_run Inserting run pos backward quiet h = absurd (not_both true refl quiet)
-quiet_run Replacing run pos backward quiet h = absurd (not_both true refl quiet)
-quiet_run Substituting run pos backward quiet h = absurd (not_both true refl quiet)
-quiet_run _ run pos backward quiet h = h
+-- no streak goes on there
+pub quiet_streak :
+    (mode : Mode) (streak : Option LastWrite) (pos : ℕ) (backward : Bool) → is_writing mode ≡ false →
+    IsStreak mode streak pos backward →
+    streak ≡ None
+quiet_streak Recording streak pos backward quiet h = absurd (not_both true refl quiet)
+quiet_streak Overdubbing streak pos backward quiet h = absurd (not_both true refl quiet)
+quiet_streak Multiplying streak pos backward quiet h = absurd (not_both true refl quiet)
+quiet_streak Inserting streak pos backward quiet h = absurd (not_both true refl quiet)
+quiet_streak Replacing streak pos backward quiet h = absurd (not_both true refl quiet)
+quiet_streak Substituting streak pos backward quiet h = absurd (not_both true refl quiet)
+quiet_streak _ streak pos backward quiet h = h
 
-pub run_in_quiet :
-    (mode : Mode) (run : Option LastWrite) (pos : ℕ) (backward : Bool) → is_writing mode ≡ false →
-    run ≡ None →
-    IsRun mode run pos backward
-run_in_quiet Recording run pos backward quiet h = absurd (not_both true refl quiet)
-run_in_quiet Overdubbing run pos backward quiet h = absurd (not_both true refl quiet)
-run_in_quiet Multiplying run pos backward quiet h = absurd (not_both true refl quiet)
-run_in_quiet Inserting run pos backward quiet h = absurd (not_both true refl quiet)
-run_in_quiet Replacing run pos backward quiet h = absurd (not_both true refl quiet)
-run_in_quiet Substituting run pos backward quiet h = absurd (not_both true refl quiet)
-run_in_quiet _ run pos backward quiet h = h
+pub streak_in_quiet :
+    (mode : Mode) (streak : Option LastWrite) (pos : ℕ) (backward : Bool) → is_writing mode ≡ false →
+    streak ≡ None →
+    IsStreak mode streak pos backward
+streak_in_quiet Recording streak pos backward quiet h = absurd (not_both true refl quiet)
+streak_in_quiet Overdubbing streak pos backward quiet h = absurd (not_both true refl quiet)
+streak_in_quiet Multiplying streak pos backward quiet h = absurd (not_both true refl quiet)
+streak_in_quiet Inserting streak pos backward quiet h = absurd (not_both true refl quiet)
+streak_in_quiet Replacing streak pos backward quiet h = absurd (not_both true refl quiet)
+streak_in_quiet Substituting streak pos backward quiet h = absurd (not_both true refl quiet)
+streak_in_quiet _ streak pos backward quiet h = h
 
 -- a list that isn't empty can be played in each of these modes but Off
 pub in_quiet :
@@ -147,11 +147,11 @@ rests_again {l = l} mode pos backward before now inside h =
     let can : ArePlayable l.stack.layers l.deck.pos × AreClosed l.stack.redo =
     playable l.deck.mode l.stack.layers l.stack.redo l.deck.pos l.deck.backward before
     h.loop.in_mode
-    in let none : l.stack.run ≡ None = quiet_run l.deck.mode l.stack.run l.deck.pos l.deck.backward
-    (resting_is_quiet l.deck.mode before) h.loop.run
-    in with_deck (record l.deck { mode = mode; pos = pos; backward = backward }) l.stack.run h
+    in let none : l.stack.streak ≡ None = quiet_streak l.deck.mode l.stack.streak l.deck.pos l.deck.backward
+    (resting_is_quiet l.deck.mode before) h.loop.streak
+    in with_deck (record l.deck { mode = mode; pos = pos; backward = backward }) l.stack.streak h
     (in_resting mode l.stack.layers l.stack.redo pos backward now ((can.0.0, inside), can.1))
-    (run_in_quiet mode l.stack.run pos backward (resting_is_quiet mode now) none)
+    (streak_in_quiet mode l.stack.streak pos backward (resting_is_quiet mode now) none)
     refl
 
 -- it has a place in its list

@@ -8,7 +8,7 @@ use Rattle.looper_rules.specs.Looper.{Asker, Track, tape_of}
 use Rattle.looper_rules.specs.Saves.{unmarked_layer, pinned, unpinned, pinned_for, freed, loop_asker, session_asker, freed_if, loop_released, session_released}
 use Rattle.looper_rules.specs.States.{IsClosed, IsRecorded, IsOpenOver, AreClosed, HasCurrent, ArePlayable, AreWaiting, AreWritten, InMode, AreWithin, AreOrdered, GoOnFrom}
 use Rattle.looper_rules.specs.Reached.{Unchanged, Keeps}
-use Rattle.looper_laws.proofs.Kept.Decks.{no_run}
+use Rattle.looper_laws.proofs.Kept.Decks.{no_streak}
 use Rattle.looper_laws.proofs.Kept.Layers.{length-unmarked, unmarked-unmarked, total_seams-cons, length-with_current}
 use Rattle.looper_laws.proofs.Kept.Tracks.{track_of_loop, loop_of_track, KeepsTracks}
 
@@ -121,7 +121,7 @@ pinned_keeps {l = l} h =
       loop = record {
         in_mode = cleared_in_mode l.deck.mode l.stack.layers l.stack.redo l.deck.pos l.deck.backward
             h.loop.in_mode;
-        run = no_run l.deck.mode l.deck.pos l.deck.backward;
+        streak = no_streak l.deck.mode l.deck.pos l.deck.backward;
         stack = record {
           layers_within = cleared_within l.stack.tape l.stack.layers h.loop.stack.layers_within;
           redo_within = h.loop.stack.redo_within;
@@ -147,7 +147,7 @@ unpinned_keeps {l = l} h =
     record {
       loop = record {
         in_mode = h.loop.in_mode;
-        run = h.loop.run;
+        streak = h.loop.streak;
         stack = record {
           layers_within = h.loop.stack.layers_within;
           redo_within = h.loop.stack.redo_within;

@@ -24,9 +24,9 @@ use Rattle.looper_rules.specs.Values.{AreControls}
 use Rattle.looper_rules.specs.Saves.{saved_cycle, strip_of}
 use Rattle.looper_rules.specs.Run.{controls_of, loaded_layer, loaded_stack, first_track, first_tracks, start, begun, entered}
 use Rattle.looper_rules.specs.States.{IsClosed, IsOpenOver, AreClosed, HasCurrent, AreWaiting, InMode, AreWithin, IsStack, IsTrack, IsLooper}
-use Rattle.looper_rules.specs.Reached.{KeepsTrack, KeepsLooper, AreLists, IsBeginning}
+use Rattle.looper_rules.specs.Reached.{KeepsLooper, AreLists, IsBeginning}
 use Rattle.looper_laws.proofs.Kept.Layers.{contents-old_cells}
-use Rattle.looper_laws.proofs.Kept.Tracks.{used-cons, wet_within, are_tracks}
+use Rattle.looper_laws.proofs.Kept.Tracks.{KeepsTrack, used-cons, wet_within, are_tracks}
 use Rattle.looper_laws.proofs.Kept.Settings.{dry_range}
 use Rattle.looper_laws.proofs.Kept.Sessions.{first-whole}
 use Rattle.looper_laws.proofs.Kept.Runs.{begun_keeps, entered_keeps}
@@ -110,7 +110,7 @@ first_keeps chunks [] s valid same within =
       track = record {
         loop = record {
           in_mode = ((refl, refl), tt);
-          run = refl;
+          streak = refl;
           stack = nothing;
           refused =
               omega arith;
@@ -145,7 +145,7 @@ first_keeps chunks (x ∷ xs) s valid same within =
       track = record {
         loop = record {
           in_mode = (((closed, tt), closed.not_empty), tt);
-          run = refl;
+          streak = refl;
           stack =
               stack;
           refused = omega arith;

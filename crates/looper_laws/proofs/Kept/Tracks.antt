@@ -1,6 +1,6 @@
 -- A track keeps what it has to keep where something is done to its loop, and all tracks do so in a
 -- sweep.
-use Rattle.std.proofs.Common.{◌≡◌, ℕ, zero, suc, ◌+◌, ◌-◌, ◌≤◌, min, max, List, [], ◌∷◌, length, map, Option, Some, None, refl, sym, ap, subst, arith, nat_le, leb-true}
+use Rattle.std.proofs.Common.{◌≡◌, ℕ, zero, suc, ◌+◌, ◌-◌, ◌≤◌, min, max, List, [], ◌∷◌, length, map, Option, Some, None, is_some, refl, sym, ap, subst, arith, nat_le, leb-true}
 use Rattle.std.proofs.lemmas.Bool.{cond_both, and_parts}
 use Rattle.std.proofs.lemmas.List.Sums.{sum_by-cons}
 use Rattle.std.specs.List.{AllByRecursion}
@@ -17,9 +17,24 @@ use Rattle.looper_rules.specs.Looper.{Track, tape_of, reach_of, swept, at_index,
 use Rattle.looper_rules.specs.Frame.{at_boundary, played_on, played}
 use Rattle.looper_rules.specs.Values.{AreControls}
 use Rattle.looper_rules.specs.States.{IsPressBefore, IsTrack}
-use Rattle.looper_rules.specs.Reached.{Unchanged, Keeps, KeepsLoops, unchanged_of, KeepsTrack}
+use Rattle.looper_rules.specs.Reached.{Unchanged, Keeps, KeepsLoops}
 use Rattle.looper_laws.proofs.Kept.Presses.{waiting_acts_keeps}
 use Rattle.looper_laws.proofs.Kept.LoopFrame.{framed_keeps}
+
+-- what verbs and frames leave unchanged of a track that reaches so many chunks: a pin stands where
+-- someone asked for a save
+abbrev pub unchanged_of : ℕ → Track → Unchanged
+unchanged_of reach t = record {
+  reach = reach;
+  pinned = is_some t.asker;
+  controls = t.loop.controls;
+  press = t.loop.deck.press;
+}
+
+-- what a track keeps that reaches so many chunks, when so many frames are done
+pub record KeepsTrack (reach frame : ℕ) (t : Track) : Type 0 where
+  pub track : IsTrack frame t
+  pub within : chunks_of (tape_of t) ≤ reach
 
 -- a loop keeps what it has, whatever was left unchanged, with its own controls and press and
 -- another reach

@@ -17,7 +17,7 @@ use Rattle.looper_rules.specs.Reached.{Unchanged, Keeps, IsLayering}
 use Rattle.looper_laws.proofs.Kept.Decks.{with_deck}
 use Rattle.looper_laws.proofs.Kept.Opening.{records_keeps, starts_keeps}
 use Rattle.looper_laws.proofs.Kept.Closing.{closed_keeps, closed_leads, IsClosedMode}
-use Rattle.looper_laws.proofs.Kept.Rest.{closed_layers, closed_redo, waiting_layers, quiet_run, run_in_quiet, IsResting, resting_is_quiet, playable, rests_again, resting_inside}
+use Rattle.looper_laws.proofs.Kept.Rest.{closed_layers, closed_redo, waiting_layers, quiet_streak, streak_in_quiet, IsResting, resting_is_quiet, playable, rests_again, resting_inside}
 use Rattle.looper_laws.proofs.Kept.History.{closed_is_quiet, undo_keeps, redo_keeps, undo_all_keeps, redo_all_keeps}
 
 -- closing leaves the direction
@@ -61,13 +61,13 @@ closes_then_keeps {l = l} act more writing h =
 waits : {A : Type 0} {a : Unchanged} {l : Loop A} → is_writing l.deck.mode ≡ false → Keeps a l →
     Keeps a (in_mode WaitStart l)
 waits {l = l} quiet h =
-    with_deck (record l.deck { mode = WaitStart }) l.stack.run h (
+    with_deck (record l.deck { mode = WaitStart }) l.stack.streak h (
       waiting_layers l.deck.mode l.stack.layers l.stack.redo l.deck.pos l.deck.backward quiet
           h.loop.in_mode,
       closed_redo l.deck.mode l.stack.layers l.stack.redo l.deck.pos l.deck.backward
           quiet h.loop.in_mode,
     )
-    (quiet_run l.deck.mode l.stack.run l.deck.pos l.deck.backward quiet h.loop.run)
+    (quiet_streak l.deck.mode l.stack.streak l.deck.pos l.deck.backward quiet h.loop.streak)
     refl
 
 -- starting `record`
@@ -166,7 +166,7 @@ ends_keeps {a = a} {l = l} writing h =
     cond_both (l.controls.round == 0 || l.deck.rounding || at_stop l) (closed l) (rounds l)
     (λ r. Keeps a r)
     (λ now. closed_keeps writing h)
-    (λ later. with_deck (record l.deck { rounding = true }) l.stack.run h h.loop.in_mode h.loop.run
+    (λ later. with_deck (record l.deck { rounding = true }) l.stack.streak h h.loop.in_mode h.loop.streak
     refl)
 
 -- the row of `multiply` and `insert`
@@ -355,10 +355,10 @@ left_wait_is_awake (l ∷ ls) = tt
 pub leaves_wait_keeps : {A : Type 0} {a : Unchanged} (l : Loop A) → Keeps a (set_to WaitStart l) →
     Keeps a (leaves_wait (set_to WaitStart l))
 leaves_wait_keeps l h =
-    with_deck (record l.deck { mode = mode_after_wait l.stack.layers }) l.stack.run h
+    with_deck (record l.deck { mode = mode_after_wait l.stack.layers }) l.stack.streak h
     (left_wait l.stack.layers l.stack.redo l.deck.pos l.deck.backward h.loop.in_mode)
-    (run_in_quiet (mode_after_wait l.stack.layers) l.stack.run l.deck.pos l.deck.backward
-    (left_wait_is_quiet l.stack.layers) h.loop.run)
+    (streak_in_quiet (mode_after_wait l.stack.layers) l.stack.streak l.deck.pos l.deck.backward
+    (left_wait_is_quiet l.stack.layers) h.loop.streak)
     refl
 
 -- a verb behind WaitStart

@@ -13,7 +13,7 @@ use Rattle.looper_rules.specs.Stack.{Stack, LastWrite}
 use Rattle.looper_rules.specs.Room.{chunks_of, has_room}
 use Rattle.looper_rules.specs.Writing.{overwrites, meets_fresh, new_cell_fits, with_cell, with_written, extension_fits, with_base, extended}
 use Rattle.looper_rules.specs.Loop.{Deck, Loop, length_of, with_stack}
-use Rattle.looper_rules.specs.States.{IsRecorded, IsOpenOver, HasCurrent, InMode, IsRun, AreWithin, AreOrdered, GoOnFrom}
+use Rattle.looper_rules.specs.States.{IsRecorded, IsOpenOver, HasCurrent, InMode, IsStreak, AreWithin, AreOrdered, GoOnFrom}
 use Rattle.looper_rules.specs.Reached.{Unchanged, Keeps}
 use Rattle.looper_laws.proofs.Kept.Layers.{total_seams-cons, length-with_current}
 
@@ -84,8 +84,8 @@ written_layers how place x seams layers = with_current (with_written how place x
 
 -- the stack after a write
 abbrev pub written_stack : {A : Type 0} → How → ℕ → A → ℕ → ℕ → Option LastWrite → Stack A → Stack A
-written_stack how place x seams tape run s =
-    record s { layers = written_layers how place x seams s.layers; tape = tape; run = run }
+written_stack how place x seams tape streak s =
+    record s { layers = written_layers how place x seams s.layers; tape = tape; streak = streak }
 
 -- a recorded layer is still one
 pub still_recorded :
@@ -197,16 +197,16 @@ no_layers_seams layers none = subst (λ ls. total_seams ls ≡ 0) (sym none) ref
 pub wrote :
     {A :
     Type 0} {a : Unchanged} {l : Loop A} (d : Deck) (how : How) (place : ℕ) (x : A) (seams tape : ℕ)
-    (run : Option LastWrite) → Keeps a l → Writes a how place l.stack seams tape →
+    (streak : Option LastWrite) → Keeps a l → Writes a how place l.stack seams tape →
     l.stack.redo ≡ [] → d.press ≡ l.deck.press →
     InMode d.mode (written_layers how place x seams l.stack.layers) l.stack.redo d.pos d.backward →
-    IsRun d.mode run d.pos d.backward →
-    Keeps a (record l { deck = d; stack = written_stack how place x seams tape run l.stack })
-wrote {l = l} d how place x seams tape run h w no_redo press in_mode goes =
+    IsStreak d.mode streak d.pos d.backward →
+    Keeps a (record l { deck = d; stack = written_stack how place x seams tape streak l.stack })
+wrote {l = l} d how place x seams tape streak h w no_redo press in_mode goes =
     record {
       loop = record {
         in_mode = in_mode;
-        run = goes;
+        streak = goes;
         stack = record {
           layers_within = written_within how place x seams l.stack.tape tape l.stack.layers w.inside
               w.short w.longer h.loop.stack.layers_within;
@@ -264,17 +264,17 @@ pub new_fits :
     {A : Type 0} {a : Unchanged} {l : Loop A} (how : How) (place : ℕ) → Keeps a l →
     place ≤ length_of l →
     new_cell_fits a.reach how l.stack ≡ true →
-    Writes a how place l.stack (cond (is_some l.stack.run) 0 2) (l.stack.tape + 1)
+    Writes a how place l.stack (cond (is_some l.stack.streak) 0 2) (l.stack.tape + 1)
 new_fits {a = a} {l = l} how place h inside fits =
     let parts = and_parts
     (has_room a.reach l.stack.tape
-    && (is_some l.stack.run || nat_le (total_seams l.stack.layers) (max_seams - 2)))
+    && (is_some l.stack.streak || nat_le (total_seams l.stack.layers) (max_seams - 2)))
     (overwrites how || nat_lt (current_length l.stack.layers) max_list_frames) fits
     in let first = and_parts (has_room a.reach l.stack.tape)
-    (is_some l.stack.run || nat_le (total_seams l.stack.layers) (max_seams - 2)) parts.0
+    (is_some l.stack.streak || nat_le (total_seams l.stack.layers) (max_seams - 2)) parts.0
     in record {
       inside = inside;
-      seams_within = new_seams (is_some l.stack.run) (total_seams l.stack.layers) first.1
+      seams_within = new_seams (is_some l.stack.streak) (total_seams l.stack.layers) first.1
           (let most = h.loop.stack.seams in omega arith);
       longer = (let longer : l.stack.tape ≤ l.stack.tape + 1 = omega arith in longer);
       in_reach = one_more_in_reach a.reach l.stack.tape first.0 h.reach;
@@ -354,7 +354,7 @@ extended_keeps {l = l} h now is fits =
                     (with_current with_base l.stack.layers) = omega arith in less),
                 now.3,
               );
-          run = h.loop.run;
+          streak = h.loop.streak;
           stack = record {
             layers_within = extended_within l.stack.tape l.stack.layers (leb-true _ _ parts.0)
                 h.loop.stack.layers_within;

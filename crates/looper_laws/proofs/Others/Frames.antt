@@ -17,7 +17,7 @@ use Rattle.looper_rules.specs.Closing.{closed, at_stop}
 use Rattle.looper_rules.specs.Starting.{records, leaves_wait}
 use Rattle.looper_rules.specs.LoopFrame.{awake_in, wakes_as, stopped, extends, ready_in, sound_at, new_frame, how_in, fits, with_input, wraps, wrapped_mode, goes_on, stops_if, lengthens, advanced_in, overrun_in, writes, passes, after, frame_later}
 use Rattle.looper_laws.proofs.Others.Stacks.{IsSame, IsTouched, IsSettled, IsDone, same, same_touched, touched_on, settled_same, touched_settled, touched_then_settled, settled_done}
-use Rattle.looper_laws.proofs.Others.Steps.{run_broken_same, extended_touched, written_touched, first_frame_fits, opened_then_touched, room_for_one, opening_tests, opened_in_reach}
+use Rattle.looper_laws.proofs.Others.Steps.{streak_broken_same, extended_touched, written_touched, first_frame_fits, opened_then_touched, room_for_one, opening_tests, opened_in_reach}
 use Rattle.looper_laws.proofs.Kept.Verbs.{set_to}
 use Rattle.looper_laws.proofs.Others.Loops.{closed_settled, closed_quiet}
 
@@ -52,7 +52,7 @@ same_stepped new h = touched_stepped new (same_touched h)
 -- one place on
 goes_on_same : {A : Type 0} {reach : ℕ} (wrap : Bool) (l : Loop A) →
     IsSame reach l.stack (goes_on wrap l).stack
-goes_on_same true l = run_broken_same
+goes_on_same true l = streak_broken_same
 goes_on_same false l = same
 
 wrapped_quiet : (mode : Mode) → is_writing (wrapped_mode mode) ≡ is_writing mode

@@ -18,7 +18,7 @@ use Rattle.looper_rules.specs.Starting.{records, starts_record, layers_on, start
 use Rattle.looper_rules.specs.History.{undone, redone_from, redone, closed_if, settled, with_fewer, stepped_back, undo, with_more, redo_from, redo, undo_each, redo_each}
 use Rattle.looper_rules.specs.Verbs.{Column, InOff, InItsOwn, InAnother, Elsewhere, column, unless_off, closes_then, plays_from_start, ends, reversed_in, record_row, layer_row, length_row, mute_row, mute_on_row, mute_off_row, pause_row, start_row, reverse_row, row, acts_waiting, acts_from, acts}
 use Rattle.looper_laws.proofs.Others.Stacks.{IsSame, IsSettled, IsMoved, IsDone, same, same_touched, touched_settled, moved_on, settled_then_moved, moved_itself, settled_done}
-use Rattle.looper_laws.proofs.Others.Steps.{run_broken_same, finished_touched, dropped_settled, undone_moved, redone_moved, settled_then_opened}
+use Rattle.looper_laws.proofs.Others.Steps.{streak_broken_same, finished_touched, dropped_settled, undone_moved, redone_moved, settled_then_opened}
 
 -- closing settles, whatever the mode
 closed_recording_settled : {A : Type 0} {reach : ℕ} (empty single : Bool) (l : Loop A) →
@@ -266,7 +266,7 @@ reversed_done : {A : Type 0} {reach : ℕ} (mode : Mode) (l : Loop A) →
 reversed_done Recording l = closes_then_done turned l (closed_done l)
 reversed_done Multiplying l = closes_then_done turned l (closed_done l)
 reversed_done Inserting l = closes_then_done turned l (closed_done l)
-reversed_done _ l = same_done run_broken_same
+reversed_done _ l = same_done streak_broken_same
 
 reverse_done : {A : Type 0} {reach : ℕ} (place : Column) (l : Loop A) →
     IsDone reach l.stack (reverse_row place l).stack

@@ -9,7 +9,7 @@ use Rattle.sl_commands.specs.declared.How.TheVariants.{Append}
 use Rattle.sl_commands.specs.declared.Started.TheVariants.{Ok}
 use Rattle.sl_base.specs.Limits.{max_layers, max_seams}
 use Rattle.looper_rules.specs.Layers.{Layer, seams_of, total_seams, with_current, without_current, current_end}
-use Rattle.looper_rules.specs.Stack.{Stack, LastWrite, run_broken}
+use Rattle.looper_rules.specs.Stack.{Stack, LastWrite, streak_broken}
 use Rattle.looper_rules.specs.Room.{chunks_of, has_room}
 use Rattle.looper_rules.specs.Opening.{opening_tape, opening_seams, first_refusal, opening, empty_layer, new_layer, opened}
 use Rattle.looper_rules.specs.Writing.{meets_fresh, new_cell_fits, write_fits, with_written, rewritten, newly_written, written, with_base, extended}
@@ -54,9 +54,9 @@ current_end_within : {A : Type 0} (tape : ℕ) (layers : List (Layer A)) → End
 current_end_within tape [] h = omega arith
 current_end_within tape (l ∷ ls) h = h.0
 
--- the run ends
-pub run_broken_same : {A : Type 0} {reach : ℕ} {s : Stack A} → IsSame reach s (run_broken s)
-run_broken_same =
+-- the streak ends
+pub streak_broken_same : {A : Type 0} {reach : ℕ} {s : Stack A} → IsSame reach s (streak_broken s)
+streak_broken_same =
     record {
       layers = refl;
       redo = refl;
@@ -84,9 +84,9 @@ unpinned_same =
 
 -- the current layer changes but for its end
 current_touched : {A : Type 0} {reach : ℕ} {s : Stack A} (f : Layer A → Layer A)
-    (run : Option LastWrite) → ((l : Layer A) → l.end ≤ s.tape → (f l).end ≤ s.tape) →
-    IsTouched reach s (record s { layers = with_current f s.layers; run = run })
-current_touched {s = s} f run keeps =
+    (streak : Option LastWrite) → ((l : Layer A) → l.end ≤ s.tape → (f l).end ≤ s.tape) →
+    IsTouched reach s (record s { layers = with_current f s.layers; streak = streak })
+current_touched {s = s} f streak keeps =
     record {
       below = below-with_current f s.layers;
       count = count-with_current f s.layers;
@@ -108,7 +108,7 @@ finished_touched {s = s} cut = current_touched (finished_layer cut s.tape) None
     (λ l h. (let same : s.tape ≤ s.tape = omega arith in same))
 
 pub extended_touched : {A : Type 0} {reach : ℕ} {s : Stack A} → IsTouched reach s (extended s)
-extended_touched {s = s} = current_touched with_base s.run (λ l h. h)
+extended_touched {s = s} = current_touched with_base s.streak (λ l h. h)
 
 rewritten_touched : {A : Type 0} {reach : ℕ} {s : Stack A} (how : How) (place : ℕ) (a : A) →
     IsTouched reach s (rewritten how place a s)
@@ -122,7 +122,7 @@ room_for_one reach tape room fits = Prim.grind (arith, nat_tests)
 newly_written_touched : {A : Type 0} {reach : ℕ} {s : Stack A} (how : How) (place : ℕ) (a : A) →
     has_room reach s.tape ≡ true → IsTouched reach s (newly_written how place a s)
 newly_written_touched {reach = reach} {s = s} how place a room =
-    let seams : ℕ = cond (is_some s.run) 0 2
+    let seams : ℕ = cond (is_some s.streak) 0 2
     in record {
       below = below-with_current (with_written how place a seams) s.layers;
       count = count-with_current (with_written how place a seams) s.layers;

@@ -19,7 +19,7 @@ use Rattle.looper_laws.proofs.Others.Steps.{first_frame_fits}
 use Rattle.looper_laws.proofs.Undo.Openings.{awake_opens, left_wait_quiet}
 use Rattle.looper_laws.proofs.Others.Refusals.{awake_refused}
 
--- nothing changes, or the run ends
+-- nothing changes, or the streak ends
 keeps_all : {A : Type 0} (s : Stack A) → KeepsLists s s
 keeps_all s = record { layers = refl; redo = refl; tape = refl; pin = refl }
 

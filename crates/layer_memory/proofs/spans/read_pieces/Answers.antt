@@ -6,13 +6,13 @@ use Rattle.layer_memory.proofs.spans.read_pieces.Goals as goal
 
 pub loop-done-preserved : goal.loop-done-preserved
 loop-done-preserved c =
-    let same_length : c.run.inside.len ≡ c.run_from-run.result.len =
-    ap (λ (p : Piece). p.len) c.run.view_is in
+    let same_length : c.piece.inside.len ≡ c.piece_from-piece.result.len =
+    ap (λ (p : Piece). p.len) c.piece.view_is in
     record {
       within = search (rules, same_length);
       hint = c.find_from-found.ensures.hint;
       value = span-more (at c.args.tape.now c.args.pool.now) (addresses c.args.list.now)
-          c.run_from-run.result c.args.place c.loop-done.done c.run.inside.len c.loop-done.out
+          c.piece_from-piece.result c.args.place c.loop-done.done c.piece.inside.len c.loop-done.out
           c.read_piece.new.out _ _ c.loop-done.invariant.within c.loop-done.invariant.value
-          c.read_piece.ensures c.run_from-run.ensures.addresses same_length refl;
+          c.read_piece.ensures c.piece_from-piece.ensures.addresses same_length refl;
     }

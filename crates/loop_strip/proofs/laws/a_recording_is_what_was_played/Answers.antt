@@ -3,8 +3,8 @@ use Rattle.loop_strip.proofs.laws.a_recording_is_what_was_played.Goals as goal
 
 pub returns-clause-recording : goal.returns-clause-recording
 returns-clause-recording c =
-    strip_records c.args.input.now c.args.strip.now c.give.new.self c.run.new.self c.give-2.new.self
-    c.args.pool.now c.give.new.pool c.run.new.pool c.give-2.new.pool c.give.ensures
-    c.run.ensures.did c.give-2.ensures
+    strip_records c.args.input.now c.args.strip.now c.give.new.self c.play.new.self c.give-2.new.self
+    c.args.pool.now c.give.new.pool c.play.new.pool c.give-2.new.pool c.give.ensures
+    c.play.ensures.did c.give-2.ensures
     c.requires.off c.requires.at_once c.requires.no_threshold c.requires.granted c.requires.some
     c.requires.short c.requires.room

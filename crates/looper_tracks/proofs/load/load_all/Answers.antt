@@ -5,14 +5,14 @@ use Rattle.looper_tracks.proofs.load.load_all.Goals as goal
 pub loop-k-init : goal.loop-k-init
 loop-k-init c = loading_none _ _ _ _ _ _ c.requires.new c.requires.all refl
 
-pub offset_bounds-lanes-k : goal.offset_bounds-lanes-k
-offset_bounds-lanes-k c =
+pub offset_bounds-tracks-k : goal.offset_bounds-tracks-k
+offset_bounds-tracks-k c =
     let fewer = fewer_lists _ _ c.requires.lists
     in let less = c.loop-k-test.true
     in record { fits = omega (arith, c.requires.few) }
 
-pub bounds-lanes-k : goal.bounds-lanes-k
-bounds-lanes-k c =
+pub bounds-tracks-k : goal.bounds-tracks-k
+bounds-tracks-k c =
     let fewer = fewer_lists _ _ c.requires.lists
     in let less = c.loop-k-test.true
     in let count = c.loop-k.invariant.count

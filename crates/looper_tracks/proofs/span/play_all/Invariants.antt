@@ -4,5 +4,5 @@ use Rattle.looper_tracks.proofs.span.play_all.Given as goal
 
 abbrev pub invariant-loop-k : goal.invariant-loop-k
 invariant-loop-k l =
-    Summing l.step l.input l.fn.lanes l.fn.pool l.fn.sums l.lanes l.pool l.sums l.k ×
+    Summing l.step l.input l.fn.tracks l.fn.pool l.fn.sums l.tracks l.pool l.sums l.k ×
     AreSumsOf l.k l.sums

@@ -5,5 +5,5 @@ use Rattle.looper_tracks.proofs.sweep.meet_boundaries.Given as goal
 
 abbrev pub invariant-loop-k : goal.invariant-loop-k
 invariant-loop-k l =
-    Sweeping (on_loop (at_boundary l.globals l.frame l.faces)) l.fn.lanes l.fn.pool l.lanes l.pool
+    Sweeping (on_loop (at_boundary l.globals l.frame l.faces)) l.fn.tracks l.fn.pool l.tracks l.pool
     l.k

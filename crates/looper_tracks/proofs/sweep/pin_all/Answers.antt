@@ -6,8 +6,8 @@ use Rattle.looper_tracks.proofs.sweep.pin_all.Goals as goal
 
 pub pin-requires : goal.pin-requires
 pin-requires c =
-    let less : c.loop-k.k < length c.loop-k.lanes =
-    omega (arith, c.loop-k-test.true, c.loop-k.auto.lanes)
+    let less : c.loop-k.k < length c.loop-k.tracks =
+    omega (arith, c.loop-k-test.true, c.loop-k.auto.tracks)
     in record {
       free =
           free_left _ _ _ _ _ less (get_or_default _ _ _ _ less) c.loop-k.invariant.rest

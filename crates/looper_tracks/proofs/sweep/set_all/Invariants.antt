@@ -5,4 +5,4 @@ use Rattle.looper_tracks.proofs.sweep.set_all.Given as goal
 
 abbrev pub invariant-loop-k : goal.invariant-loop-k
 invariant-loop-k l =
-    Sweeping (on_loop (sets l.control l.value)) l.fn.lanes l.fn.pool l.lanes l.pool l.k
+    Sweeping (on_loop (sets l.control l.value)) l.fn.tracks l.fn.pool l.tracks l.pool l.k

@@ -9,5 +9,5 @@ abbrev pub invariant-loop-i : goal.invariant-loop-i
 invariant-loop-i l = record {
   writing : IsWriting l.layers l.pool;
   length : current_length l.layers.stack.layers ≡ l.length;
-  follows : Follows l.layers.stack.run Backward (l.to - 1 - l.i);
+  follows : Follows l.layers.stack.streak Backward (l.to - 1 - l.i);
 }

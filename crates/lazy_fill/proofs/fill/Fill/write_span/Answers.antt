@@ -10,10 +10,10 @@ pub invariant_of-self-2 : goal.invariant_of-self-2
 invariant_of-self-2 c =
     let f = fill_of c.self.inside in
     let k = c.overwrite_span-done.result in
-    let on : IsTrue (is_some f.run) = search rules in
+    let on : IsTrue (is_some f.streak) = search rules in
     let some : 1 ≤ k = search rules in
     let within : c.args.place + k ≤ length f.cells = search rules in
-    let follows : Follows f.run Forward c.args.place =
+    let follows : Follows f.streak Forward c.args.place =
     rw (sym c.self.view_is) at c.requires.follows in
     let pieces : c.overwrite_span-done.new.self.items ≡ overwritten_span k c.args.place f.next
     f.pieces = search rules in

@@ -8,14 +8,14 @@ pub block_total-total-requires : goal.block_total-total-requires
 block_total-total-requires c =
     let some = some_sending _ _ _ _ c.args.self.now c.sending.result.now c.self.view_is
     c.sending.ensures c.requires
-    in can_read c.self.inside.lanes _ _ _ c.sending.result.now c.index-sending-0.result
+    in can_read c.self.inside.looper _ _ _ c.sending.result.now c.index-sending-0.result
     c.self.invariant c.sending.ensures some
 
 pub seek_block-requires : goal.seek_block-requires
 seek_block-requires c =
     let some = some_sending _ _ _ _ c.args.self.now c.sending.result.now c.self.view_is
     c.sending.ensures c.requires
-    in can_read c.self.inside.lanes _ _ _ c.sending.result.now c.index-sending-0.result
+    in can_read c.self.inside.looper _ _ _ c.sending.result.now c.index-sending-0.result
     c.self.invariant c.sending.ensures some
 
 pub overflow_add-part : goal.overflow_add-part
@@ -23,7 +23,7 @@ overflow_add-part c =
     let some = some_sending _ _ _ _ c.args.self.now c.sending.result.now c.self.view_is
     c.sending.ensures c.requires
     in let less : c.self.inside.queue.part < c.block_total-total.result =
-    part_within c.self.inside.lanes _ _ _ c.sending.result.now c.index-sending-0.result
+    part_within c.self.inside.looper _ _ _ c.sending.result.now c.index-sending-0.result
     c.block_total-total.result c.self.invariant c.sending.ensures some c.block_total-total.ensures
     in let part = c.part.ensures
     in let top = c.block_total-total.type_inv
@@ -35,7 +35,7 @@ block_sent-requires c =
     c.sending.ensures c.requires
     in record {
       within =
-          part_within c.self.inside.lanes _ _ _ c.sending.result.now c.index-sending-0.result
+          part_within c.self.inside.looper _ _ _ c.sending.result.now c.index-sending-0.result
           c.block_total-total.result c.self.invariant c.sending.ensures some
           c.block_total-total.ensures;
     }
@@ -44,7 +44,7 @@ pub invariant_of-self : goal.invariant_of-self
 invariant_of-self c =
     let some = some_sending _ _ _ _ c.args.self.now c.sending.result.now c.self.view_is
     c.sending.ensures c.requires
-    in let is = sent_is c.self.inside.lanes _ _ _ _ _ c.args.self.now c.sending.result.now
+    in let is = sent_is c.self.inside.looper _ _ _ _ _ c.args.self.now c.sending.result.now
     c.index-sending-0.result _ c.self.view_is c.seek_block.ensures c.sending.ensures some
     c.block_total-total.ensures c.block_sent.ensures
     in subst IsEngine (sym is)
@@ -54,7 +54,7 @@ pub returns-clause-sent : goal.returns-clause-sent
 returns-clause-sent c =
     let some = some_sending _ _ _ _ c.args.self.now c.sending.result.now c.self.view_is
     c.sending.ensures c.requires
-    in sent_is c.self.inside.lanes _ _ _ _ _ c.args.self.now c.sending.result.now
+    in sent_is c.self.inside.looper _ _ _ _ _ c.args.self.now c.sending.result.now
     c.index-sending-0.result _ c.self.view_is c.seek_block.ensures c.sending.ensures some
     c.block_total-total.ensures c.block_sent.ensures
 
@@ -63,6 +63,6 @@ returns-clause-in_step c =
     let some = some_sending _ _ _ _ c.args.self.now c.sending.result.now c.self.view_is
     c.sending.ensures c.requires
     in sent_steps c.args.self.now _
-    (sent_is c.self.inside.lanes _ _ _ _ _ c.args.self.now c.sending.result.now
+    (sent_is c.self.inside.looper _ _ _ _ _ c.args.self.now c.sending.result.now
     c.index-sending-0.result _ c.self.view_is c.seek_block.ensures c.sending.ensures some
     c.block_total-total.ensures c.block_sent.ensures)

@@ -7,19 +7,19 @@ use Rattle.looper_engine.proofs.engine.Engine.new.Goals as goal
 
 pub over-requires-clause-kept : goal.over-requires-clause-kept
 over-requires-clause-kept c =
-    let looper : c.in-Ok.lanes ≡ start c.args.setup.now.settings c.args.setup.now.chunks
+    let looper : c.in-Ok.looper ≡ start c.args.setup.now.settings c.args.setup.now.chunks
     c.args.initial.now = search rules
     in let fits : c.args.setup.now.chunks < used (map length c.args.initial.now) → ⊥ = search rules
-    in start_kept c.args.setup.now.settings c.args.setup.now.chunks c.args.initial.now c.in-Ok.lanes
+    in start_kept c.args.setup.now.settings c.args.setup.now.chunks c.args.initial.now c.in-Ok.looper
     looper
     (beginning c.args.setup.now.settings c.args.setup.now.chunks c.args.initial.now
     c.loops-loops.ensures.within c.requires.lists fits)
 
 pub over-requires-clause-free : goal.over-requires-clause-free
 over-requires-clause-free c =
-    let looper : c.in-Ok.lanes ≡ start c.args.setup.now.settings c.args.setup.now.chunks
+    let looper : c.in-Ok.looper ≡ start c.args.setup.now.settings c.args.setup.now.chunks
     c.args.initial.now = search rules
-    in start_free c.args.setup.now.settings c.args.setup.now.chunks c.args.initial.now c.in-Ok.lanes
+    in start_free c.args.setup.now.settings c.args.setup.now.chunks c.args.initial.now c.in-Ok.looper
     looper
 
 pub returns-in-Ok-clause-begins : goal.returns-in-Ok-clause-begins

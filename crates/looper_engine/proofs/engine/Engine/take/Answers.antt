@@ -7,7 +7,7 @@ use Rattle.looper_engine.proofs.engine.Engine.take.Goals as goal
 
 pub join-requires : goal.join-requires
 join-requires c =
-    taken_place c.self.inside.lanes c.self.inside.journal c.self.inside.frames_done
+    taken_place c.self.inside.looper c.self.inside.journal c.self.inside.frames_done
     c.self.inside.queue c.settle.new.self c.args.self.now c.args.sender c.count-seq.result
     c.args.command c.made_save.result
     c.released_by-released.result c.self.view_is c.self.invariant c.requires.clears
@@ -15,7 +15,7 @@ join-requires c =
 
 pub invariant_of-self : goal.invariant_of-self
 invariant_of-self c =
-    let fields : Taken c.self.inside.lanes c.apply-applied.new.self c.self.inside.journal
+    let fields : Taken c.self.inside.looper c.apply-applied.new.self c.self.inside.journal
     c.stamp.new.self c.self.inside.frames_done c.self.inside.queue c.settle.new.self
     c.join.new.self c.args.sender c.count-seq.result c.args.command c.made_save.result
     c.released_by-released.result = search rules
@@ -27,7 +27,7 @@ invariant_of-self c =
 
 pub returns-clause-took : goal.returns-clause-took
 returns-clause-took c =
-    let fields : Taken c.self.inside.lanes c.apply-applied.new.self c.self.inside.journal
+    let fields : Taken c.self.inside.looper c.apply-applied.new.self c.self.inside.journal
     c.stamp.new.self c.self.inside.frames_done c.self.inside.queue c.settle.new.self
     c.join.new.self c.args.sender c.count-seq.result c.args.command c.made_save.result
     c.released_by-released.result = search rules
@@ -36,7 +36,7 @@ returns-clause-took c =
 
 pub returns-clause-in_step : goal.returns-clause-in_step
 returns-clause-in_step c =
-    let fields : Taken c.self.inside.lanes c.apply-applied.new.self c.self.inside.journal
+    let fields : Taken c.self.inside.looper c.apply-applied.new.self c.self.inside.journal
     c.stamp.new.self c.self.inside.frames_done c.self.inside.queue c.settle.new.self
     c.join.new.self c.args.sender c.count-seq.result c.args.command c.made_save.result
     c.released_by-released.result = search rules

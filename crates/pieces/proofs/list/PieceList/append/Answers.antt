@@ -1,6 +1,6 @@
 use Rattle.std.proofs.Common.{arith, sym}
 use Rattle.std.proofs.lemmas.Grind.{common_steps}
-use Rattle.pieces.proofs.OneMoreLemmas.{joined-runs-at, joined-solid, joined-total, joined-hint}
+use Rattle.pieces.proofs.OneMoreLemmas.{joined-continues-at, joined-solid, joined-total, joined-hint}
 use Rattle.pieces.proofs.list.PieceList.append.Goals as goal
 
 pub invariant_of-self : goal.invariant_of-self
@@ -22,5 +22,5 @@ invariant_of-self c =
 pub returns-clause-continues : goal.returns-clause-continues
 returns-clause-continues c =
     rw (sym c.self.view_is)
-    (joined-runs-at c.args.address c.self.inside.pieces.items c.append_vec-piece.new.pieces.items
+    (joined-continues-at c.args.address c.self.inside.pieces.items c.append_vec-piece.new.pieces.items
     c.append_vec-piece.ensures.items)

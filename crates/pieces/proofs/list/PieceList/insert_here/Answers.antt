@@ -1,7 +1,7 @@
 use Rattle.std.proofs.Common.{arith, ◌<◌, sym, length}
 use Rattle.std.proofs.lemmas.Grind.{common_steps}
 use Rattle.pieces.specs.Pieces.{addresses}
-use Rattle.pieces.proofs.OneMoreLemmas.{length-addresses-at, inserted-runs-at, inserted-solid, inserted-total, inserted-hint}
+use Rattle.pieces.proofs.OneMoreLemmas.{length-addresses-at, inserted-continues-at, inserted-solid, inserted-total, inserted-hint}
 use Rattle.pieces.proofs.list.PieceList.insert_here.Goals as goal
 
 pub invariant_of-self : goal.invariant_of-self
@@ -29,6 +29,6 @@ pub returns-clause-continues : goal.returns-clause-continues
 returns-clause-continues c =
     let lt : c.args.place < length (addresses c.self.inside.pieces.items) =
     rw (sym c.self.view_is) at c.requires.place in
-    inserted-runs-at c.args.place c.args.address c.self.inside.pieces.items
+    inserted-continues-at c.args.place c.args.address c.self.inside.pieces.items
     c.insert_vec-piece.new.pieces.items c.insert_vec-piece.ensures.items (omega (arith, lt))
     c.self.invariant.solid

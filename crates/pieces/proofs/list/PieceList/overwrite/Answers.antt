@@ -1,7 +1,7 @@
 use Rattle.std.proofs.Common.{arith, ◌<◌, sym, length}
 use Rattle.std.proofs.lemmas.Grind.{common_steps}
 use Rattle.pieces.specs.Pieces.{addresses}
-use Rattle.pieces.proofs.OneMoreLemmas.{length-addresses-at, overwritten-runs-at, overwritten-solid, overwritten-total, overwritten-hint}
+use Rattle.pieces.proofs.OneMoreLemmas.{length-addresses-at, overwritten-continues-at, overwritten-solid, overwritten-total, overwritten-hint}
 use Rattle.pieces.proofs.list.PieceList.overwrite.Goals as goal
 
 pub invariant_of-self : goal.invariant_of-self
@@ -28,6 +28,6 @@ pub returns-clause-continues : goal.returns-clause-continues
 returns-clause-continues c =
     let lt : c.args.place < length (addresses c.self.inside.pieces.items) =
     rw (sym c.self.view_is) at c.requires.place in
-    overwritten-runs-at c.args.place c.args.address c.self.inside.pieces.items
+    overwritten-continues-at c.args.place c.args.address c.self.inside.pieces.items
     c.overwrite_vec-piece.new.pieces.items c.overwrite_vec-piece.ensures.items lt
     c.self.invariant.solid

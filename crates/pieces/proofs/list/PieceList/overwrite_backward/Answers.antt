@@ -1,7 +1,7 @@
 use Rattle.std.proofs.Common.{arith, ◌<◌, sym, length}
 use Rattle.std.proofs.lemmas.Grind.{common_steps}
 use Rattle.pieces.specs.Pieces.{addresses}
-use Rattle.pieces.proofs.BackwardLemmas.{overwritten-down-runs, overwritten-down-solid, overwritten-down-total, backward-hint}
+use Rattle.pieces.proofs.BackwardLemmas.{overwritten-down-continues, overwritten-down-solid, overwritten-down-total, backward-hint}
 use Rattle.pieces.proofs.OneMoreLemmas.{length-addresses-at}
 use Rattle.pieces.proofs.list.PieceList.overwrite_backward.Goals as goal
 
@@ -29,6 +29,6 @@ pub returns-clause-continues : goal.returns-clause-continues
 returns-clause-continues c =
     let lt : c.args.place < length (addresses c.self.inside.pieces.items) =
     rw (sym c.self.view_is) at c.requires.place in
-    overwritten-down-runs c.args.place c.args.address c.self.inside.pieces.items
+    overwritten-down-continues c.args.place c.args.address c.self.inside.pieces.items
     c.overwrite_vec_backward-piece.new.pieces.items c.overwrite_vec_backward-piece.ensures.items
     lt c.self.invariant.solid

@@ -1,7 +1,0 @@
-use Rattle.looper_lanes.proofs.LooperLemmas.{session_saved}
-use Rattle.looper_lanes.proofs.lanes.Lanes.save_session.Goals as goal
-
-pub returns-clause-looper : goal.returns-clause-looper
-returns-clause-looper c =
-    session_saved _ _ _ _ _ _ _ _ _ c.self.view_is c.any_pinned.ensures c.if-any_pinned.false
-    c.pin_all.ensures
