@@ -4,7 +4,6 @@
 -- each sender's numbers are 0, 1, 2 and so on in order.
 -- "Entries" in docs/rules.md.
 use Rattle.std.specs.Prelude.{◌≡◌, ◌≤◌, ℕ, ◌+◌, Bool, true, ◌&&◌, ◌==◌, nat_le, nat_lt, List, [], ◌∷◌, ◌++◌, length, filter, map}
-use Rattle.std.specs.List.{list_all}
 use Rattle.sl_commands.specs.declared.command.Command.{Command}
 use Rattle.sl_commands.specs.declared.command.Command.TheVariants.{Release}
 use Rattle.sl_commands.specs.declared.entry.Entry.{Entry}
@@ -18,10 +17,6 @@ is_sender sender _ = nat_lt sender 2
 -- the entry is valid, for so many loops
 abbrev pub is_valid : ℕ → Entry → Bool
 is_valid loops e = is_sender e.sender e.command && is_allowed loops e.command
-
--- each entry is valid
-abbrev pub are_valid : ℕ → List Entry → Bool
-are_valid loops es = list_all (is_valid loops) es
 
 -- the entries of one sender, in order
 abbrev pub entries_of : ℕ → List Entry → List Entry
