@@ -27,10 +27,3 @@ quota_is es osc midi saver all osc_is midi_is saver_is =
     room (suc zero) = omega (arith, midi_is)
     room (suc (suc zero)) = omega (arith, saver_is)
     room (suc (suc (suc sender))) = all (suc (suc (suc sender)))
-
-pub quota_within : (es : List Entry) (osc midi saver : ℕ) → HasRoomFor max_quota es →
-    osc ≡ length (entries_of 0 es) → midi ≡ length (entries_of 1 es) →
-    saver ≡ length (entries_of 2 es) →
-    quota_from osc midi saver ≤ max_quota
-quota_within es osc midi saver all osc_is midi_is saver_is = let first = all 0 in let second =
-    all 1 in let third = all 2 in omega (arith, osc_is, midi_is, saver_is)

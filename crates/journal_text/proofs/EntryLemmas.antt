@@ -53,11 +53,6 @@ line_has_words loops e few has =
       command = allowed_has_words loops e.command few parts.1;
     }
 
--- the sender of an entry that has a line
-pub line_sender : (loops : ℕ) (e : Entry) → HasLine loops e → e.sender ≤ 2
-line_sender loops e has = sender_within e.sender e.command
-    (and_parts (is_sender e.sender e.command) (is_allowed loops e.command) has.valid).0
-
 -- each word of an entry stands whole in a line
 entry_words_are_words : (e : Entry) → EntryHasWords e → AllByRecursion IsWord (entry_words e)
 entry_words_are_words e has = (

@@ -23,15 +23,6 @@ before_command word (SaveSession name) = refl
 before_command word (Release target outcome) = refl
 before_command word Quit = refl
 
--- an entry's line, from its numbers on
-pub entry_line-parts : (e : Entry) →
-    entry_line e ≡ decimal e.frame
-    ++ (32 ∷ (decimal e.sender
-    ++ (32 ∷ (decimal e.seq ++ (32 ∷ line_of (command_words e.command))))))
-entry_line-parts e =
-    ap (λ (rest : List ℕ). decimal e.frame ++ (32 ∷ (decimal e.sender ++ (32 ∷ rest))))
-    (before_command (decimal e.seq) e.command)
-
 -- one line more is written
 pub line_written : (out line : List ℕ) (entries : List Entry) (place : ℕ) (e : Entry)
     (whole rest : List ℕ) → place < length entries →

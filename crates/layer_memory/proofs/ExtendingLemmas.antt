@@ -30,10 +30,6 @@ pub based : (top : Option Top) (d : FillOf) (closed : List (Layer ℕ)) →
 based None d closed lt w = grind (arith, w)
 based (Some t) d closed lt w = based-on t.over t d closed lt
 
-pub extend-below : (floor : ℕ) (closed : List (Layer ℕ)) → current_end closed ≤ floor →
-    Ordered closed → Below floor (current_list closed)
-extend-below floor closed le o = list-below floor closed le o
-
 marked-extended : (floor : ℕ) (xs ys : List ℕ) → Below floor ys →
     marked floor (xs ++ ys) ≡ marked floor xs ++ old_cells ys
 marked-extended floor xs ys b =

@@ -35,18 +35,6 @@ use Rattle.layer_memory.proofs.WriteLemmas.{pin-more}
 pub trans : {A : Type 0} {x y z : A} → x ≡ y → y ≡ z → x ≡ z
 trans e f = rw e f
 
--- no frame yet
-pub appended-none : (t : TapeOf) (p : PoolOf) → Owns t p → Appended t t p p []
-appended-none t p o = record {
-  len = omega arith;
-  new = λ k lt. absurd (omega (arith, lt));
-  kept = λ a lt. refl;
-  owned = o;
-  others = λ u whole ou apart. record { owned = ou; apart = apart; frames = λ a lt. refl };
-  chunks = refl;
-  all = refl;
-}
-
 length-last : (xs : List Sound) (x : Sound) → length (xs ++ x ∷ []) ≡ length xs + 1
 length-last xs x = length-append xs (x ∷ [])
 

@@ -281,10 +281,6 @@ pub pinned_list-mapped : {A B : Type 0} (f : A → B) (p : Option (Pin A)) →
 pinned_list-mapped f None = refl
 pinned_list-mapped f (Some p) = refl
 
-pub streak_broken-mapped : {A B : Type 0} (f : A → B) (s : Stack A) →
-    stack_map f (streak_broken s) ≡ streak_broken (stack_map f s)
-streak_broken-mapped f s = refl
-
 -- contents that agree below a bound
 map-agrees : {A : Type 0} (f g : ℕ → A) (n : ℕ) (xs : List ℕ) → ((a : ℕ) → a < n → f a ≡ g a) →
     Below n xs → map f xs ≡ map g xs

@@ -31,17 +31,4 @@ pub open-base : (t : Top) (over : Bool) (d : FillOf) (closed : List (Layer ℕ))
 open-base t true d closed e = rw e refl
 open-base t false d closed e = rw e refl
 
--- the numbers of frames are those of addresses
-pub sizes-mapped : (f : ℕ → Sound) (s : Stack ℕ) (z : Sizes) → AreSizes s z →
-    AreSizes (stack_map f s) z
-sizes-mapped f s z a = record {
-  list = rw (lengths-mapped f s.layers) a.list;
-  cycle = rw (cycle-mapped f s.layers) a.cycle;
-  base = rw (bases-mapped f s.layers) a.base;
-  layers = rw (layers-mapped f s.layers) a.layers;
-  redo = rw (layers-mapped f s.redo) a.redo;
-  seams = rw (total-mapped f s.layers) a.seams;
-  streak = a.streak;
-}
-
 pub ruleset sizes = (open-length, closed-length, closed-base, open-base)

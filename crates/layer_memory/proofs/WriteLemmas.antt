@@ -147,18 +147,6 @@ held-pushed-in tape closed d d' None pin pinned how place seams seams' n w h few
 held-pushed-in tape closed d d' (Some t) pin pinned how place seams seams' n w h few es en ed =
     rw (en, ed) (held-pushed tape closed d t pin pinned how place seams seams' h few es)
 
--- what is kept where a frame is set
-pub set-keeps : (h h' : Held) (p p' : PoolOf) (a : ℕ) (x : Sound) → IsWhole h.tape →
-    h'.tape ≡ h.tape → IsSet h.tape h.tape p p' a x → Keeps h h' p p'
-set-keeps h h' p p' a x whole e s = let f : length p'.free ≡ length p.free = ap length s.free in
-    rw e (record {
-      owns = s.owned;
-      whole = whole;
-      others = s.others;
-      reached = omega (arith, f);
-      all = s.all;
-    })
-
 pub ruleset writes = (held-pushed-in, stack-pushed)
 
 pub ruleset answers = (pushes, refuses, rewrites)

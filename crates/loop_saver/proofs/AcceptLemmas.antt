@@ -82,34 +82,3 @@ pub writes_wanted :
     {P : Type 0} (k : Keeper P) (fs gs : List SavedFile) (old new : P) →
     Writes k fs old new Memory → Writes k (fs ++ gs) old new Memory
 writes_wanted k fs gs old new w = (writes_before fs gs _ _ w.0, w.1)
-
--- memory may be wanted behind all writes
-pub wants_behind :
-    {P : Type 0} (k : Keeper P) (fs : List SavedFile) (old new : P) (before now after : Ending) →
-    GoesOn k fs old new before now → MayWant now after → GoesOn k fs old new before after
-wants_behind k fs old new Written Written after writes (inl same) =
-    subst (GoesOn k fs old new Written) (sym same) writes
-wants_behind k fs old new Written Written after writes (inr wanted) =
-    subst (GoesOn k fs old new Written) (sym wanted)
-    (writes_all fs (k.files old) (k.files new) writes.0, writes.1)
-wants_behind k fs old new Written Failed after writes same =
-    subst (GoesOn k fs old new Written) (sym same) writes
-wants_behind k fs old new Written Memory after writes same =
-    subst (GoesOn k fs old new Written) (sym same) writes
-wants_behind k fs old new Failed Written after writes wants = absurd (cc (writes.0))
-wants_behind k fs old new Failed Failed after writes same = (same, writes.1)
-wants_behind k fs old new Failed Memory after writes same = absurd (cc (writes.0))
-wants_behind k fs old new Memory Written after writes wants = absurd (cc (writes.0))
-wants_behind k fs old new Memory Failed after writes same = absurd (cc (writes.0))
-wants_behind k fs old new Memory Memory after writes same = (same, writes.1)
-
--- memory may be wanted where no file is due
-pub wants_alone :
-    {P : Type 0} (k : Keeper P) (old : P) (before after : Ending) → MayWant before after →
-    GoesOn k [] old old before after
-wants_alone k old Written after (inl same) =
-    subst (GoesOn k [] old old Written) (sym same) (refl, refl)
-wants_alone k old Written after (inr wanted) =
-    subst (GoesOn k [] old old Written) (sym wanted) (writes_none k [] old, refl)
-wants_alone k old Failed after same = (same, refl)
-wants_alone k old Memory after same = (same, refl)

@@ -180,12 +180,6 @@ pub opened_as : (addressed : Started → Loop ℕ → Loop ℕ) (empty : Bool) (
 opened_as addressed empty s p l o answers is =
     is ∙ ap (λ a. addressed a (loop_of s)) (answered s p empty Ok o answers)
 
--- waiting for the threshold
-pub waits_or : {A : Type 0} (reach : ℕ) (l : Loop A) (waits : Bool) →
-    nat_lt 0 l.controls.rec_thresh ≡ waits →
-    starts_record reach l ≡ cond waits (in_mode WaitStart l) (opens_record reach l)
-waits_or reach l waits is = ap (λ b. cond b (in_mode WaitStart l) (opens_record reach l)) is
-
 -- all of a refused opening, by what its answer does to the loop
 pub record IsRefused (act : ℕ → Loop Sound → Loop Sound) (addressed : ℕ → Loop ℕ → Loop ℕ)
     (s s' : Parts) (p p' : PoolOf) : Type 0 where

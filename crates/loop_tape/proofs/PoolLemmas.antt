@@ -228,20 +228,6 @@ held_new a le = record {
   short = omega arith;
 }
 
--- more frames filled, or frames set
-pub held_filled : (store store' : List Sound) (given : List ℕ) (b a : ℕ) →
-    HoldsPool store given b a → length store ≤ length store' → length store' ≤ a * 4096 →
-    HoldsPool store' given b a
-held_filled store store' given b a h more le = record {
-  once = h.once;
-  below = h.below;
-  fewer = h.fewer;
-  within = h.within;
-  most = h.most;
-  short = le;
-  filled = let f = h.filled in omega (arith, f, more);
-}
-
 -- the free chunks with one given back
 free_more : (b a : ℕ) (given : List ℕ) (k : ℕ) →
     free_of b a (given ++ k ∷ []) ≡ free_of b a given ++ k ∷ []

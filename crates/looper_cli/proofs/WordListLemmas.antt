@@ -40,14 +40,6 @@ options_on text words at g next x y inside first second is =
     ap (option_and_then (options_in (map text (drop (at + 2) words)))) is
     ∙ sym (two_left text words at g x y inside first second)
 
-pub options_off :
-    {X : Type 0} (text : X → List ℕ) (words : List X) (at : ℕ) (g : Given) (x y : X) →
-    at + 1 < length words → x ≡ get_or words at x → y ≡ get_or words (at + 1) y →
-    None ≡ with_option (text x) (text y) g → None ≡ options_in (map text (drop at words)) g
-options_off text words at g x y inside first second is =
-    ap (option_and_then (options_in (map text (drop (at + 2) words)))) is
-    ∙ sym (two_left text words at g x y inside first second)
-
 -- fewer than three words ask for nothing
 pub short_render : {X : Type 0} (text : X → List ℕ) (words : List X) → length words < 3 →
     render_in (map text words) ≡ None
@@ -55,18 +47,3 @@ short_render text [] short = refl
 short_render text (a ∷ []) short = refl
 short_render text (a ∷ b ∷ []) short = refl
 short_render text (a ∷ b ∷ c ∷ words) short = absurd (omega arith)
-
--- the first three name the run
-pub long_render :
-    {X : Type 0} (text : X → List ℕ) (words : List X) (x y z : X) → 3 ≤ length words →
-    x ≡ get_or words 0 x → y ≡ get_or words 1 y → z ≡ get_or words 2 z →
-    render_in (map text words) ≡ run_named (text x) (text y) (text z)
-    (options_in (map text (drop 3 words)) none_given)
-long_render text [] x y z long first second third = absurd (omega arith)
-long_render text (a ∷ []) x y z long first second third = absurd (omega arith)
-long_render text (a ∷ b ∷ []) x y z long first second third = absurd (omega arith)
-long_render text (a ∷ b ∷ c ∷ words) x y z long first second third =
-    ap₂ (λ (p : _) (q : _). run_named (text p) (text q) (text c)
-    (options_in (map text words) none_given)) (sym first) (sym second)
-    ∙ ap (λ (r : _). run_named (text x) (text y) (text r) (options_in (map text words) none_given))
-    (sym third)

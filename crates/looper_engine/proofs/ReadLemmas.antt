@@ -143,11 +143,6 @@ few_loops e is = leb-true (length e.looper.tracks) max_loops
     (and_parts (nat_le 1 (length e.looper.tracks)) (nat_le (length e.looper.tracks) max_loops)
     is.kept.looper.count).1
 
-pub some_loops : (e : EngineOf) → IsEngine e → 1 ≤ length e.looper.tracks
-some_loops e is = leb-true 1 (length e.looper.tracks)
-    (and_parts (nat_le 1 (length e.looper.tracks)) (nat_le (length e.looper.tracks) max_loops)
-    is.kept.looper.count).0
-
 -- the first of the saves whose blocks weren't all sent can be read
 first_reads : (l : Looper) (ps : List Pending) (d : Pending) → length l.tracks ≤ max_loops →
     AreHeld l (held_saves l ps) → 1 ≤ length ps → CanRead (slice_index_or ps 0 d).target l

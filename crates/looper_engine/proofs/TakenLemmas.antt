@@ -504,8 +504,3 @@ taken_steps sender command e now answer clears is answers b s h =
     in subst (λ x. IsInStep b (with_taken answer (save en e.looper) s) x) (sym is)
     (subst (λ a. IsInStep b (with_taken a (save en e.looper) s) (took en e)) (sym answers)
     (took_in_step b s en e refl refl clears h))
-
--- there is a number for one more save
-pub saves_fit : (e : EngineOf) (quota : ℕ) → IsEngine e → next_seq 0 e.journal.entries ≤ quota →
-    next_seq 1 e.journal.entries ≤ quota → quota ≤ max_quota → e.looper.saves < max_value
-saves_fit e quota is first second few = let asked = is.asked in omega arith

@@ -55,12 +55,3 @@ clear_more g frame faces n q m k ls l p less is by_n by_q all here =
     clear_fewer_all g frame faces (n - 1) (m - 1) (tracks_in p (take k ls)) (omega arith) all
     in let here' = clear_fewer g frame faces (q - 1) (m - 1) (track_in p l) (omega arith) here
     in all_more (IsClearFor g frame faces (m - 1)) k ls l p less is all' here'
-
--- before the next boundary
-pub calm_next : (g : Globals) (frame next count quantize : ℕ) (faces : List Face) →
-    count < next ⊎ (count ≡ 0) →
-    ((frames : ℕ) → frames < next →
-    is_boundary_behind g.sync_source quantize g.pulse frame faces frames ≡ false) →
-    NoBoundaryWithin g frame faces count quantize
-calm_next g frame next count quantize faces (inl less) before n some within = before n (omega arith)
-calm_next g frame next count quantize faces (inr none) before n some within = absurd (omega arith)

@@ -40,11 +40,6 @@ all_more P k ls l p less is all here =
     in subst (λ j. AllByRecursion P (tracks_in p (take j ls))) at
     (one_more P k ls l p less is all here)
 
-pub all_read : (P : Track → Type 0) (k : ℕ) (ls : List TrackOf) (p : PoolOf) → length ls ≤ k →
-    AllByRecursion P (tracks_in p (take k ls)) → AllByRecursion P (tracks_in p ls)
-all_read P k ls p past all =
-    subst (λ us. AllByRecursion P (tracks_in p us)) (take_all k ls past) all
-
 -- whether a pin stands
 pub pinned_later : (k : ℕ) (ls : List TrackOf) (l : TrackOf) (p : PoolOf) (face : Face) →
     k < length ls → l ≡ get_or ls k l → face ≡ face_of (seen l.strip p) → face.pinned ≡ false →
@@ -112,11 +107,6 @@ track_there p ls k l less is =
     let fits : k < length (tracks_in p ls) = simp length-map less
     in slice_get-get_or (tracks_in p ls) k (track_in p l) fits
     ∙ ap Some (get_or-map (track_in p) ls k l (track_in p l) less ∙ ap (track_in p) (sym is))
-
-pub no_track : (p : PoolOf) (ls : List TrackOf) (k : ℕ) → length ls ≤ k →
-    slice_get (tracks_in p ls) k ≡ None
-no_track p ls k past = let fits : length (tracks_in p ls) ≤ k = simp length-map past
-    in slice_get_past (tracks_in p ls) k fits
 
 no_pin : {A B : Type 0} (f : A → B) (pin : Option (Pin A)) → is_some (pin_map f pin) ≡ false →
     pin ≡ None

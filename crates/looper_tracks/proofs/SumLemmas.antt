@@ -83,19 +83,3 @@ summing_at step xs ls0 p0 sums0 ls p sums k d l' p' sums' h within did more long
     let less : k < length ls = (let same = h.sweep.count in omega arith)
     in summing_more step xs ls0 p0 sums0 ls p sums k (get_or ls k d) l' p' sums' h within
     (get_or_default ls k d (get_or ls k d) less) did more long
-
-pub summing_none : (step : ℕ) (xs : List Sound) (ls : List TrackOf) (p : PoolOf)
-    (sums : List Sound) → AreIn p ls → Summing step xs ls p sums ls p sums 0
-summing_none step xs ls p sums inside =
-    record { sweep = sweeping_none (track_over step xs) ls p inside; whole = refl; long = refl }
-
-pub summing_all : (step : ℕ) (xs : List Sound) (ls0 : List TrackOf) (p0 : PoolOf)
-    (sums0 : List Sound) (ls : List TrackOf) (p : PoolOf) (sums : List Sound) (k : ℕ) →
-    Summing step xs ls0 p0 sums0 ls p sums k → length ls ≤ k →
-    sums ≡ added_all sums0 (map given_of (all_over step xs (free_in p0) (tracks_in p0 ls0)))
-summing_all step xs ls0 p0 sums0 ls p sums k h all =
-    let fits : length (tracks_in p ls) ≤ k = simp length-map all
-    in let none : added_all sums
-    (map given_of (all_over step xs (free_in p) (drop k (tracks_in p ls)))) ≡ sums =
-    rw (drop_all k (tracks_in p ls) fits) refl
-    in sym none ∙ h.whole

@@ -146,12 +146,6 @@ pub did_nothing : (act : ℕ → Track → Track) (l : TrackOf) (p : PoolOf) →
 did_nothing act l p owns same =
     record { track = sym same; owns = owns; reach = refl; others = others_as_before l.strip p }
 
--- a track of a pool owns its chunks
-pub own_at : (ls : List TrackOf) (k : ℕ) (l : TrackOf) (p : PoolOf) → AreIn p ls → k < length ls →
-    l ≡ get_or ls k l → Owns l.strip p
-own_at ls k l p inside less is = let own : OwnsTrack p l =
-    subst (λ u. OwnsTrack p u) (sym is) (all_at (OwnsTrack p) ls k l less inside.own) in own.owns
-
 pub owned : (ls : List TrackOf) (k : ℕ) (d : TrackOf) (p : PoolOf) → AreIn p ls → k < length ls →
     Owns (get_or ls k d).strip p
 owned ls k d p inside less = let own : OwnsTrack p (get_or ls k d) =

@@ -115,27 +115,6 @@ give_parts loops kind channel number command is =
       press = b.1;
     }
 
--- what is a binding for some loops is one for more
-pub more_bindings : (loops more : ℕ) (binding : Binding) → loops ≤ more →
-    IsTrue (is_binding loops binding) → IsTrue (is_binding more binding)
-more_bindings loops more (Give kind channel number command) few is =
-    let parts = give_parts loops kind channel number command is in
-    rw (
-      lt-ltb channel 16 parts.on_channel,
-      lt-ltb number 128 parts.has_number,
-      more_presses loops more command few parts.press,
-    ) refl
-more_bindings loops more (Sweep channel number target control low high) few is =
-    let parts = sweep_parts loops channel number target control low high is in
-    rw (
-      lt-ltb channel 16 parts.on_channel,
-      lt-ltb number 128 parts.has_number,
-      more_targets loops more target few parts.has_target,
-      parts.of_loop,
-      more_within (control_row control).range loops more low few parts.from_low,
-      more_within (control_row control).range loops more high few parts.to_high,
-    ) refl
-
 -- what is a binding has words
 pub binding_has_words : (loops : ℕ) (binding : Binding) → loops ≤ max_loops →
     IsTrue (is_binding loops binding) → HasWords binding

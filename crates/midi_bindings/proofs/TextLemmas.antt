@@ -17,14 +17,6 @@ all_pushed : (loops : ℕ) (before : List Binding) (binding : Binding) → AreVa
 all_pushed loops [] binding are is = (is, tt)
 all_pushed loops (b ∷ before) binding are is = (are.0, all_pushed loops before binding are.1 is)
 
-pub are_pushed : (before : List Binding) (binding : Binding) → AreBindings max_loops before →
-    length before < max_binding_lines → IsTrue (is_binding max_loops binding) →
-    AreBindings max_loops (before ++ binding ∷ [])
-are_pushed before binding are room is = record {
-  few = omega (arith, length-append before (binding ∷ []));
-  valid = all_pushed max_loops before binding are.valid is;
-}
-
 -- those that may stand one behind another are valid
 stand_valid : (loops : ℕ) (before bindings : List Binding) →
     MayAllFollow (bindings_form loops) before bindings → AreValid loops bindings

@@ -25,36 +25,6 @@ thousandths_shrink n k small =
     let most : n * k ≤ n * 1000 = mul-le-mul_left n small
     in omega arith
 
-pub scaled_is_small : (z : ℤ) (k : ℕ) → k ≤ 1000 → unsigned_abs (scaled z k) ≤ unsigned_abs z
-scaled_is_small z k small =
-    let size : unsigned_abs (scaled z k) ≡ unsigned_abs z * k / 1000 =
-    unsigned_abs-div (z *ℤ pos k) 1000 ∙ ap (λ n. n / 1000) (unsigned_abs-mul z (pos k))
-    in let shrunk = thousandths_shrink (unsigned_abs z) k small
-    in rw size shrunk
-
--- a sample is 8388608 at most
-pub sample_is_small : (z : ℤ) → IsSample z → unsigned_abs z ≤ 8388608
-sample_is_small (pos n) within = omega (arith, ints)
-sample_is_small (negsuc n) within = omega (arith, ints)
-
--- the size of a sum
-pub sum_is_small : (a b : ℤ) (m n : ℕ) → unsigned_abs a ≤ m → unsigned_abs b ≤ n →
-    unsigned_abs (a +ℤ b) ≤ m + n
-sum_is_small (pos a) (pos b) m n p q = omega (arith, ints)
-sum_is_small (pos a) (negsuc b) m n p q = omega (arith, ints)
-sum_is_small (negsuc a) (pos b) m n p q = omega (arith, ints)
-sum_is_small (negsuc a) (negsuc b) m n p q = omega (arith, ints)
-
--- a sum with a scaled sample more
-pub added_is_small : (sum sample : ℤ) (level bound : ℕ) → level ≤ 1000 → IsSample sample →
-    unsigned_abs sum ≤ bound →
-    unsigned_abs (sum +ℤ scaled sample level) ≤ bound + 8388608
-added_is_small sum sample level bound small within least =
-    let here = scaled_is_small sample level small
-    in let most = sample_is_small sample within
-    in let both : unsigned_abs (scaled sample level) ≤ 8388608 = omega arith
-    in sum_is_small sum (scaled sample level) bound 8388608 least both
-
 -- both sides of a sum with a frame more
 pub sides_are_small : (bound : ℕ) (sum : Sound) (left_before right_before left right : ℤ) →
     record { left = left_before; right = right_before } ≡ sum → IsWithin bound sum →

@@ -251,10 +251,6 @@ length-addresses [] = refl
 length-addresses (p ∷ ps) = let h = length-addresses ps in let e = length-piece p in
     let a = length-append (piece_addresses p) (addresses ps) in omega (arith, h, e, a)
 
-pub one-address : (a : ℕ) → piece_addresses (record { start = a; len = 1; backward = false }) ≡ a
-    ∷ []
-one-address a = let e : a + 0 ≡ a = omega arith in rw e refl
-
 pub filled : (ps qs : List Piece) (place address : ℕ) → place < total ps →
     addresses qs ≡ take place (addresses ps)
     ++ (piece_addresses (record { start = address; len = 1; backward = false })

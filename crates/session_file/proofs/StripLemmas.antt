@@ -77,32 +77,6 @@ strip_parts s is =
 low : (n : ℕ) → leb 0 n ≡ true
 low n = le-leb 0 n (omega arith)
 
--- a strip of such parts has its values in their ranges
-pub strip_from : (s : StripSettings) → StripFits s → IsTrue (is_cycle_of s.length s.cycle) →
-    IsTrue (is_strip s)
-strip_from s fits cycle =
-    let length_in : leb s.length max_list_frames ≡ true =
-    le-leb s.length max_list_frames fits.length in
-    let feedback : leb s.feedback 1000 ≡ true = le-leb s.feedback 1000 fits.feedback in
-    let wet : leb s.wet 1000 ≡ true = le-leb s.wet 1000 fits.wet in
-    let round : leb s.round 1 ≡ true = le-leb s.round 1 fits.round in
-    let quantize : leb s.quantize 3 ≡ true = le-leb s.quantize 3 fits.quantize in
-    let thresh : leb s.rec_thresh 8388607 ≡ true = le-leb s.rec_thresh 8388607 fits.rec_thresh in
-    rw (
-      length_in,
-      cycle,
-      low s.feedback,
-      feedback,
-      low s.wet,
-      wet,
-      low s.round,
-      round,
-      low s.quantize,
-      quantize,
-      low s.rec_thresh,
-      thresh,
-    ) refl
-
 -- each number of a strip is a word
 pub strip_words_are_words : (s : StripSettings) → StripFits s →
     AllByRecursion IsWord (strip_words s)

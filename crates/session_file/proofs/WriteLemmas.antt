@@ -12,23 +12,6 @@ use Rattle.session_file.specs.declared.line.Line.{Line}
 use Rattle.session_file.specs.declared.line.Line.TheVariants.{Value, Loop}
 use Rattle.session_file.specs.SessionLines.{line_text, loop_lines, lines_of}
 
--- one loop's line more is written
-pub strip_written :
-    (out new whole : List ℕ) (strips : List StripSettings) (index : ℕ) (s : StripSettings) →
-    drop index strips ≡ s ∷ drop (suc index) strips
-    → new ≡ out ++ (line_text (Loop index s) ++ (10 ∷ [])) →
-    out ++ lines_then line_text (loop_lines index (drop index strips)) [] ≡ whole
-    → new ++ lines_then line_text (loop_lines (suc index) (drop (suc index) strips)) [] ≡ whole
-strip_written out new whole strips index s first written so_far =
-    let left : List ℕ =
-    lines_then line_text (loop_lines (suc index) (drop (suc index) strips)) [] in
-    ap (λ (o : List ℕ). o ++ left) written
-    ∙ append_assoc out (line_text (Loop index s) ++ (10 ∷ [])) left
-    ∙ ap (λ (l : List ℕ). out ++ l) (append_assoc (line_text (Loop index s)) (10 ∷ []) left)
-    ∙ sym (ap (λ (ss : List StripSettings). out ++ lines_then line_text (loop_lines index ss) [])
-    first)
-    ∙ so_far
-
 -- lines behind lines
 pub lines_then-append : (lines : List Line) (rest : List ℕ) →
     lines_then line_text lines rest ≡ lines_then line_text lines [] ++ rest

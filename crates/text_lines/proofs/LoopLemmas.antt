@@ -25,12 +25,6 @@ lines_then-push spell [] a rest = refl
 lines_then-push spell (x ∷ items) a rest =
     ap (λ (lines : List ℕ). spell x ++ (10 ∷ lines)) (lines_then-push spell items a rest)
 
--- the header was read
-pub header_read : {A : Type 0} (form : TextForm A) (bytes first rest : List ℕ) →
-    IsCutAt 10 bytes first rest → first ≡ form.header → IsReadUpTo form bytes [] rest
-header_read form bytes first rest cut is =
-    record { follow = tt; spelled = cut.whole ∙ ap (λ (line : List ℕ). line ++ (10 ∷ rest)) is }
-
 -- one line more was read
 pub line_read :
     {A : Type 0} (form : TextForm A) (bytes : List ℕ) (items : List A) (rest line behind : List ℕ)
@@ -46,11 +40,6 @@ line_read form bytes items rest line behind a read cut is next = record {
       ∙ sym (ap (λ (lines : List ℕ). form.header ++ (10 ∷ lines))
       (lines_then-push form.spell items a behind));
 }
-
--- there is no line
-pub no_line_read : {A : Type 0} (form : TextForm A) (bytes : List ℕ) → Lacks 10 bytes →
-    FirstFault form bytes 1 Ending
-no_line_read form bytes lacks = no_line lacks refl refl
 
 -- the first line isn't the header
 pub no_header_read : {A : Type 0} (form : TextForm A) (bytes first rest : List ℕ) →

@@ -26,17 +26,6 @@ pub cast_unsigned-w16 : (z : ℤ) → cast_unsigned w16 z ≡ twos_complement 16
 cast_unsigned-w16 (pos n) = refl
 cast_unsigned-w16 (negsuc n) = refl
 
--- the lowest 24 bits of a sample
-pub low_bytes-sample : (z : ℤ) → IsSample z → low_bytes w64 3 z ≡ twos_complement 24 z
-low_bytes-sample (pos n) within =
-    let fits : n ≤ 8388607 = omega (arith, ints, within.1) in
-    let low : n % 2 ^ 24 ≡ n = omega arith in
-    low
-low_bytes-sample (negsuc n) within =
-    let fits : n ≤ 8388607 = omega (arith, ints, within.0) in
-    let low : (2 ^ 64 - suc n) % 2 ^ 24 ≡ 2 ^ 24 - suc n = omega arith in
-    low
-
 -- a sample has as many bytes as the bits say
 pub length-sample_bytes : (channels bits : ℕ) (sample : ℤ) → IsFormat channels bits →
     length (sample_bytes bits sample) ≡ bits / 8

@@ -10,10 +10,6 @@ use Rattle.looper_rules.specs.Cuts.{begun_on, continued}
 use Rattle.looper_laws.proofs.Runs.Cuts.{begun-append}
 use Rattle.whole_looper.specs.Spans.{HasBegun}
 
--- no frames
-pub begun_none : (frame : ℕ) (l : Looper) → HasBegun frame [] [] l l
-begun_none frame l = record { is = refl }
-
 -- some frames behind others
 begun_then : (frame frame' : ℕ) (xs ys out out' : List Sound) (l l' l'' : Looper) →
     frame' ≡ frame + length xs →

@@ -47,27 +47,6 @@ tracks_did f rate g dry saves t t' l is did =
     (with_tracks rate g dry saves t.chunks t'.chunks (f (free_among t) t.tracks) t'.tracks
     did.chunks did.tracks)
 
--- something was done to the loops of a target
-pub target_did :
-    (target : Target) (act : ℕ → Loop Sound → Loop Sound) (rate : ℕ) (g : Globals) (dry saves : ℕ)
-    (t t' : TracksOf) (l : Looper) → looper_of rate g dry saves t ≡ l →
-    DidTracks (at_target target g.selected_loop_num (on_loop act)) t t' →
-    looper_of rate g dry saves t' ≡ on_target target act l
-target_did target act rate g dry saves t t' l is did =
-    subst (λ (m : Looper). looper_of rate g dry saves t' ≡ on_target target act m) is
-    (tracks_did _ rate g dry saves t t' (looper_of rate g dry saves t) refl did)
-
--- the boundaries were met
-pub boundaries_did :
-    (frame : ℕ) (faces : List Face) (rate : ℕ) (g : Globals) (dry saves : ℕ) (t t' : TracksOf)
-    (l : Looper) → looper_of rate g dry saves t ≡ l → faces ≡ map face_on t.tracks →
-    DidTracks (swept itself (on_loop (at_boundary g frame faces))) t t' →
-    looper_of rate g dry saves t' ≡ at_boundaries frame l
-boundaries_did frame faces rate g dry saves t t' l is taken did =
-    subst (λ (m : Looper). looper_of rate g dry saves t' ≡ at_boundaries frame m) is
-    (tracks_did _ rate g dry saves t t' (looper_of rate g dry saves t) refl
-    (subst (λ fs. DidTracks (swept itself (on_loop (at_boundary g frame fs))) t t') taken did))
-
 -- a loop pinned for an asker, and one save more
 pub saved_did :
     (k : ℕ) (asker : Asker) (rate : ℕ) (g : Globals) (dry saves : ℕ) (t t' : TracksOf)

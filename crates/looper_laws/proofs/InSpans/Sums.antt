@@ -51,25 +51,3 @@ one_sum : (s : Sound) (gs : List Sound) → added_all (s ∷ []) (map one gs) �
 unfolding one
 one_sum s [] = ap (λ t. t ∷ []) (sym (summed_silence s))
 one_sum s (g ∷ gs) = one_sum (summed s g) gs ∙ ap (λ t. t ∷ []) (summed_assoc s g (sum_of gs))
-
-pub span_of_one : (x : Sound) (l : Looper) →
-    spanned_from (x ∷ []) l ≡ record {
-      output = (framed_from x l).output ∷ [];
-      looper =
-          (framed_from x l).looper;
-    }
-span_of_one x l =
-    let free = free_of l.chunks l.tracks
-    in let all = all_over l.globals.fade_step (x ∷ []) free l.tracks
-    in let dry = gain_after l.dry l.globals.dry l.globals.fade_step
-    in let given = map given_by (all_played x l)
-    in let sums : sums_of (x ∷ []) all ≡ sum_of given ∷ [] =
-    ap (λ gs. added_all (silence ∷ []) gs) (one_given l.globals.fade_step x free l.tracks)
-    ∙ one_sum silence given ∙ ap (λ t. t ∷ []) (silence_summed (sum_of given))
-    in ap₂ (λ ss ts. let s : Spanned =
-    record {
-      output = map clamped_sound (added ss (scaled_sound x dry ∷ []));
-      looper =
-          record l { dry = dry; tracks = ts };
-    } in s) sums
-    (one_track l.globals.fade_step x free l.tracks)

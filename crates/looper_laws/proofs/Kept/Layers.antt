@@ -47,11 +47,6 @@ ordered_within less tape (l ∷ ls) order below within =
     (let under : current_end ls ≤ l.end = order.0 in omega arith)
     in ((within.0.0, below), ordered_within less tape ls order.1 below_it within.1)
 
--- the current list of closed layers with a place in it isn't empty
-pub current_length_closed : {A : Type 0} (l : Layer A) (ls : List (Layer A)) → AreClosed (l ∷ ls) →
-    1 ≤ current_length (l ∷ ls)
-current_length_closed l ls closed = closed.0.not_empty
-
 -- the current layer changed leaves as many layers
 pub length-with_current : {A : Type 0} (f : Layer A → Layer A) (layers : List (Layer A)) →
     length (with_current f layers) ≡ length layers
