@@ -9,7 +9,7 @@
 //! - An early `end` has no form, a loop's line with another index is out of order, and a line where
 //!   `end` is due is one too many. A loop's index is judged behind all other numbers of its line.
 //! - `load` reads the text and then each loop's file, which `part_name` names, and tells the first
-//!   bad one. It writes nothing.
+//!   bad one. It writes nothing. `read_bytes` reads one file, with the same fault.
 //!
 //! Begin with `session`, then `reading` and `line`; `write` spells, `loading` loads, `laws` has
 //! what holds of the definitions.
@@ -27,7 +27,7 @@ mod tests;
 mod write;
 
 pub use laws::{a_session_has_one_reading, sessions_come_back};
-pub use loading::{LoadFault, load};
+pub use loading::{LoadFault, load, read_bytes};
 pub use part::part_name;
 pub use session::read_session;
 pub use write::session_text;

@@ -11,8 +11,8 @@ ghost use Rattle.session_file.specs.Sessions.{HasNoValues};
 ghost use Rattle.session_file.specs.Readings.{StripFits};
 
 use sl_base::{MAX_LIST_FRAMES, MAX_LOOPS, MAX_RATE};
-use sl_commands::{Control, StripSettings, TextKind, in_range};
-use text_lines::{Shape, have_shapes, read_integer, read_numeral, words_of};
+use sl_commands::{Control, StripSettings, TextKind, in_range, is_cycle_of};
+use text_lines::{Shape, behind, have_shapes, read_integer, read_numeral, words_of};
 
 /// What the first eight lines behind the header say.
 #[derive(Clone, Copy, PartialEq, Eq)]
@@ -128,17 +128,6 @@ fn is_form(due: Option<Setting>, words: &[&[u8]]) -> bool
     }
 }
 
-/// The words behind the first, where that is this one.
-fn behind<'a, 'b>(words: &'a [&'b [u8]], first: &[u8]) -> Option<&'a [&'b [u8]]>
-    ensures found { IfSome result
-        (λ rest. map (λ w. w.now) words.now ≡ first.now ∷ map (λ w. w.now) rest.now) }
-    ensures only { IfNone result ((rest : List (List ℕ)) →
-        map (λ w. w.now) words.now ≢ first.now ∷ rest) }
-{
-    let (word, rest) = words.split_first()?;
-    if *word == first { Some(rest) } else { None }
-}
-
 /// The number that a word spells, `most` at most.
 fn number_of(word: &[u8], most: u32) -> Option<u32>
     ensures found { IfSome result (λ n. (word.now ≡ decimal n) × (n ≤ most)) }
@@ -196,17 +185,6 @@ fn numbers_of(words: &[&[u8]]) -> Option<StripSettings>
             })
         }
         _ => None,
-    }
-}
-
-/// The cycle is one of the length.
-fn is_cycle_of(length: u32, cycle: u32) -> bool
-    ensures { result ≡ is_cycle_of length cycle }
-{
-    if length == 0 {
-        cycle == 0
-    } else {
-        1 <= cycle && cycle <= length
     }
 }
 

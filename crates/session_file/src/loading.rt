@@ -12,7 +12,7 @@ ghost use Rattle.session_file.specs.Outcomes.{ReadsBytes, IsFaultOf, ListOf, Tel
 
 use crate::part::part_name;
 use crate::session::read_session;
-use sl_base::{Frames, Name};
+use sl_base::{Frames, Memory, Name};
 use sl_commands::{Initial, ReadText, Settings, StripSettings};
 use sl_ports::{FileAnswer, Keeper};
 use std::alloc::Global;
@@ -30,8 +30,20 @@ pub enum LoadFault {
     Memory,
 }
 
-/// The bytes of a file.
-fn read_bytes<P: Keeper>(alloc: Global, keeper: &mut P, name: &Name) -> Result<Vec<u8>, LoadFault>
+impl From<Memory> for LoadFault {
+    ghost from_gives = { λ _ fault. fault ≡ NoMemory };
+
+    fn from(_: Memory) -> LoadFault {
+        LoadFault::Memory
+    }
+}
+
+/// The bytes of a file. One that is missing is bad, with the number 0 and the line 0.
+pub fn read_bytes<P: Keeper>(
+    alloc: Global,
+    keeper: &mut P,
+    name: &Name,
+) -> Result<Vec<u8>, LoadFault>
     ensures reads { OnlyReads P.Keeper keeper.old keeper.new (is_unread result) }
     ensures value { ReadsBytes (P.files keeper.old) name.now result }
 {
@@ -132,15 +144,6 @@ fn read_at<P: Keeper>(
     read_loop(alloc, keeper, &name, strips[index].length)
 }
 
-/// Puts the list of one more loop at the end.
-fn add(lists: &mut Initial, list: Frames) -> Result<(), LoadFault>
-    requires { length lists.old < 16 }
-    ensures ok { OnOk result (lists.new ≡ lists.old ++ list ∷ []) }
-    ensures memory { IfErr result (λ fault. fault ≡ NoMemory) }
-{
-    lists.push(list).map_err(|_| LoadFault::Memory)
-}
-
 /// The lists of all loops, by index.
 #[tactic(auto, using(crate::proofs::LoadLemmas::reads_on, crate::proofs::LoadLemmas::loads_more, crate::proofs::LoadLemmas::bad_loop))]
 fn load_parts<P: Keeper>(
@@ -157,7 +160,7 @@ fn load_parts<P: Keeper>(
     let mut lists = Initial::new(alloc);
     for index in 0..strips.len() {
         match read_at(alloc, keeper, session, strips, index) {
-            Ok(list) => add(&mut lists, list)?,
+            Ok(list) => lists.push(list)?,
             Err(fault) => return Err(fault),
         }
     }

@@ -104,8 +104,6 @@ pub fn session_text(alloc: Global, settings: &Settings) -> Result<Vec<u8>, Memor
     ensures { IfOk result (λ text. text.items ≡ session_text settings.now) }
 {
     let strips = settings.strips.as_slice();
-    match write_parts(alloc, settings.rate, &settings.globals, strips) {
-        Ok(text) => Ok(text.into_bytes()),
-        Err(_) => Err(Memory),
-    }
+    let text = write_parts(alloc, settings.rate, &settings.globals, strips)?;
+    Ok(text.into_bytes())
 }

@@ -10,7 +10,7 @@ returns-in-Err-clause-value g c =
 
 pub loop-index-preserved : goal.loop-index-preserved
 loop-index-preserved g c =
-    let more = c.in_ok-add-in-Ok.ensures.ok in (
+    let more = c.in_ok-push-in-Ok.ensures.ok in (
       reads_on _ _ _ _ _ c.loop-index.invariant.0 c.in-Ok.ensures.reads,
       loads_more _ _ c.args.session.now c.args.strips.now c.loop-index.index _ _ c.in-Ok.list
           c.loop-index.invariant.0.files
