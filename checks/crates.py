@@ -3,9 +3,9 @@
 
     checks/crates.py [TABLE]
 
-A crate of crates.txt names exactly the crates that its files cite. README.md has a row for each crate but those that only
-measure, read vectors or test, docs/architecture.md a row for each with what it stands on, and docs/proved.md links a page for
-each that has one. With the word `architecture` the rows of docs/architecture.md are printed, with what stands in them today.
+A crate of crates.txt names exactly the crates that its files cite. README.md has an item for each crate but those that only
+measure, read vectors or test, docs/architecture.md one for each with what it stands on, and docs/proved.md links a page for
+each that has one. With the word `architecture` the items of docs/architecture.md are printed as crates.txt has them.
 The last line is `N passed, N failed`. The status is 0 where none failed.
 """
 import os
@@ -49,18 +49,28 @@ def text_of(crate):
 known = set(crates) | {'arrayvec', 'byteorder', 'crossbeam_queue', 'circular_buffer', 'thiserror', 'atomic_table', 'mio'}
 for crate, below in crates.items():
     text = text_of(crate)
-    cited = {name for name in known - {crate} if re.search(r'\bRattle\.%s\.|^\s*(pub )?use %s\b|\b%s::' % (name, name, name), text, re.M)}
+    own = set(re.findall(r'^\s*(?:pub )?mod (\w+);', text, re.M))
+    cited = {name for name in known - own - {crate} if re.search(r'\bRattle\.%s\.|^\s*(pub )?use %s\b|(?<![:\w])%s::' % (name, name, name), text, re.M)}
     say(cited <= set(below), '%s cites %s, which crates.txt does not name' % (crate, sorted(cited - set(below))))
     say(set(below) <= cited, '%s cites nothing of %s' % (crate, sorted(set(below) - cited)))
 
-rows = re.findall(r'^\| (\w+) \| ', read('README.md').split('## The crates')[1].split('\n## ')[0], re.M)
-rows = [row for row in rows if row != 'Crate']
+def items(text):
+    """The items of a document's lists, each on one line."""
+    return re.findall(r'^- (.*)$', re.sub(r'\n +(?! *- )', ' ', text), re.M)
+
+
+rows = [match.group(1) for item in items(read('README.md').split('## The crates')[1].split('\n## ')[0])
+        for match in [re.match(r'\*\*(\w+)\*\*: ', item)] if match]
 wanted = [crate for crate in crates if crate not in BESIDE]
 say(rows == wanted, 'README.md has %s, crates.txt %s' % ([row for row in rows if row not in wanted], [row for row in wanted if row not in rows]))
 
-table = read('docs/architecture.md').split('## The crates by layer')[1].split('\n## ')[0]
-told = {name: below.split(', ') if below.strip() not in ['', 'nothing'] else []
-        for name, below in re.findall(r'^\|[^|]*\| (\w+) \| ([^|]*?) \|', table, re.M) if name != 'Crate'}
+told, gives = {}, {}
+for item in items(read('docs/architecture.md').split('## The crates by layer')[1].split('\n## ')[0]):
+    match = re.match(r'\*\*(\w+)\*\*, on ([\w, ]+): (.*)', item)
+    say(match, 'docs/architecture.md: not a crate: %s' % item[:60])
+    if match:
+        told[match.group(1)] = match.group(2).split(', ') if match.group(2) != 'nothing' else []
+        gives[match.group(1)] = match.group(3)
 say(set(told) == set(crates), 'docs/architecture.md and crates.txt differ: %s' % sorted(set(told) ^ set(crates)))
 for crate in crates:
     ours = [below for below in crates[crate] if below in crates]
@@ -74,7 +84,6 @@ say(stand <= set(crates), 'docs/proved/ has pages of no crate: %s' % sorted(stan
 if sys.argv[1:] == ['architecture']:
     for crate in crates:
         ours = [below for below in crates[crate] if below in crates]
-        match = re.search(r'^\|[^|]*\| %s \|[^|]*\| (.*) \|$' % crate, table, re.M)
-        print('| | %s | %s | %s |' % (crate, ', '.join(ours) or 'nothing', match.group(1) if match else ''))
+        print('- **%s**, on %s: %s' % (crate, ', '.join(ours) or 'nothing', gives.get(crate, '')))
 print('crates and tables: %d passed, %d failed' % (passed, failed))
 sys.exit(failed != 0)
