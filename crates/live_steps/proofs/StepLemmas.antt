@@ -1,6 +1,7 @@
 -- Each step of a live looper keeps engine and rings in step.
 use Rattle.std.proofs.Common.{◌≡◌, ◌≢◌, ℕ, zero, suc, ◌+◌, ◌≤◌, ◌<◌, Bool, true, false, List, [], ◌∷◌, ◌++◌, length, take, Option, Some, None, refl, sym, ap, ap₂, ◌∙◌, subst, arith, append_assoc, append-nil, length-append, take_all}
 use Rattle.std.specs.Prelude.{option_to_list, IsTrue, ◌==◌}
+use Rattle.std.proofs.lemmas.List.Elements.{All-nil}
 use Rattle.sl_base.specs.Sounds.{Sound}
 use Rattle.sl_commands.specs.declared.Target.{Target}
 use Rattle.sl_commands.specs.declared.Command.{Command}
@@ -277,3 +278,19 @@ begin_in_step b begins engine =
       behind = λ before e after is of_saver. absurd (no_entry before e after is);
       senders = refl;
     }
+
+-- a new engine and new rings are in step
+pub new_in_step : (b : Beginning) → IsBeginning b.settings b.chunks b.initial →
+    AreInStep b [] [] (first_engine b) none_passed
+new_in_step b begins =
+    begin_in_step b begins
+    (record {
+      ran = refl;
+      frames = refl;
+      before = All-nil (λ (en : Entry). en.frame ≤ 0);
+      unanswered = refl;
+      blocks = refl;
+      part = refl;
+      quota = refl;
+      stamped = refl;
+    })
