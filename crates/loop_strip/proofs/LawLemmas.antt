@@ -2,6 +2,7 @@
 use Rattle.std.proofs.Common.{◌≡◌, ◌≢◌, ℕ, ◌≤◌, Bool, true, false, ◌||◌, List, [], ◌∷◌, length, None, refl, sym, ap, subst, ◌∙◌, arith}
 use Rattle.std.specs.Prelude.{⊤, ◌==◌}
 use Rattle.sl_base.specs.Sounds.{Sound}
+use Rattle.sl_commands.specs.declared.Verb.{Verb}
 use Rattle.sl_commands.specs.declared.Verb.TheVariants.{Overdub, Undo, Redo}
 use Rattle.sl_commands.specs.declared.Mode.{Mode}
 use Rattle.sl_commands.specs.declared.Mode.TheVariants.{Off, WaitStart, Playing, Overdubbing, Muted, OneShot, Paused}
@@ -23,10 +24,20 @@ use Rattle.looper_laws.proofs.Others.Loops.{quiet_settled}
 use Rattle.looper_laws.proofs.Undo.Openings.{acts_starts, acts_undo_stack}
 use Rattle.looper_laws.proofs.Undo.Layers.{redo_undo}
 use Rattle.loop_tape.specs.Pools.{PoolOf}
-use Rattle.loop_strip.specs.Strips.{StripOf, seen, reach_in, Did}
+use Rattle.loop_strip.specs.declared.given.Given.{Given}
+use Rattle.loop_strip.specs.declared.given.Press.TheVariants.{Hit}
+use Rattle.loop_strip.specs.Strips.{StripOf, seen, reach_in, Did, gives}
+use Rattle.loop_strip.specs.Laws.{HasOverdubbed}
 use Rattle.loop_strip.specs.Moving.{IsAtRest}
 use Rattle.loop_strip.proofs.DidLemmas.{did_then}
 use Rattle.loop_strip.proofs.PassLemmas.{written_as}
+
+-- a verb that is given at once
+pub did_hit : {g : Given} {verb : Verb} {s s' : StripOf} {p p' : PoolOf} →
+    g ≡ record { press = Hit; verb = verb; frame = 0; long_press = 0 } → Did (gives g) s s' p p' →
+    Did (given verb) s s' p p'
+did_hit {s = s} {s' = s'} {p = p} {p' = p'} is did =
+    subst (λ (h : Given). Did (gives h) s s' p p') is did
 
 -- a verb that acts at once
 pub given_now : (l : Loop Sound) (reach : ℕ) → l.controls.quantize ≡ 0 →
@@ -207,14 +218,25 @@ overdub_taken_back xs reach l now rests granted =
     (settled_over l.stack.layers m.deck.mode m there.mode there.stands)
 
 pub strip_taken_back : (xs : List Sound) (s s1 s2 s3 : StripOf) (p p1 p2 p3 : PoolOf) →
-    Did (given Overdub) s s1 p p1 → Did (loop_over xs) s1 s2 p1 p2 → Did (given Undo) s2 s3 p2 p3 →
-    (seen s p).controls.quantize ≡ 0 → IsAtRest (seen s p).deck.mode →
-    opening (reach_in s p) false (seen s p).stack ≡ Ok →
+    HasOverdubbed xs s s1 s2 p p1 p2 → Did (given Undo) s2 s3 p2 p3 →
     (seen s3 p3).stack.layers ≡ (seen s p).stack.layers
-strip_taken_back xs s s1 s2 s3 p p1 p2 p3 a b c now rests granted =
-    let all = did_then (did_then a b) c
+strip_taken_back xs s s1 s2 s3 p p1 p2 p3 h c =
+    let all = did_then (did_then h.press h.frames) c
     in ap (λ (k : Loop Sound). k.stack.layers) all.seen
-    ∙ overdub_taken_back xs (reach_in s p) (seen s p) now rests granted
+    ∙ overdub_taken_back xs (reach_in s p) (seen s p) h.at_once h.rests h.granted
+
+-- a layer is left where an overdub was played
+overdub_left : (xs : List Sound) (reach : ℕ) (l : Loop Sound) → l.controls.quantize ≡ 0 →
+    IsAtRest l.deck.mode → opening reach false l.stack ≡ Ok →
+    1 ≤ length (settled (loop_over xs reach (given Overdub reach l))).stack.layers
+overdub_left xs reach l now rests granted =
+    let opened : given Overdub reach l ≡ layers_on Ok Overdubbing l =
+    given_now l reach now ∙ overdub_opens l reach rests granted
+    in let there = frames_over l.stack.layers xs reach (layers_on Ok Overdubbing l)
+    (record { mode = tt; stands = record { some = omega arith; rest = refl } })
+    in let m : Loop Sound = loop_over xs reach (layers_on Ok Overdubbing l)
+    in subst (λ k. 1 ≤ length (settled (loop_over xs reach k)).stack.layers) (sym opened)
+    (settled_over l.stack.layers m.deck.mode m there.mode there.stands).some
 
 -- redo gives it back
 pub strip_given_back : (s s1 s2 : StripOf) (p p1 p2 : PoolOf) → Did (given Undo) s s1 p p1 →
@@ -227,6 +249,12 @@ strip_given_back s s1 s2 p p1 p2 a b some =
     in ap (λ (k : Loop Sound). k.stack) (all.seen ∙ ap (given Redo r) (given_undo l r)
     ∙ given_redo (acts Undo r l) r) ∙ redo_undo r r l some
 
-pub ruleset taking_back = (strip_taken_back)
-
-pub ruleset giving_back = (strip_given_back)
+-- and so it does behind an overdub
+pub overdub_given_back : (xs : List Sound) (s s1 s2 s3 s4 : StripOf) (p p1 p2 p3 p4 : PoolOf) →
+    HasOverdubbed xs s s1 s2 p p1 p2 → Did (given Undo) s2 s3 p2 p3 → Did (given Redo) s3 s4 p3 p4 →
+    (seen s4 p4).stack ≡ (settled (seen s2 p2)).stack
+overdub_given_back xs s s1 s2 s3 s4 p p1 p2 p3 p4 h c d =
+    let there = did_then h.press h.frames
+    in strip_given_back s2 s3 s4 p2 p3 p4 c d
+    (subst (λ (k : Loop Sound). 1 ≤ length (settled k).stack.layers) (sym there.seen)
+    (overdub_left xs (reach_in s p) (seen s p) h.at_once h.rests h.granted))

@@ -13,8 +13,9 @@ use Rattle.looper_rules.specs.Presses.{given, pressed, released}
 use Rattle.loop_tape.specs.Pools.{PoolOf}
 use Rattle.loop_tape.specs.Tapes.{TapeOf, at, IsWhole, Owns as OwnsTape, Apart as ApartTapes}
 use Rattle.layer_memory.specs.Kept.{StackBelow}
-use Rattle.loop_strip.specs.declared.press.Press.{Press}
-use Rattle.loop_strip.specs.declared.press.Press.TheVariants.{Down, Up, Hit}
+use Rattle.loop_strip.specs.declared.given.Given.{Given}
+use Rattle.loop_strip.specs.declared.given.Press.{Press}
+use Rattle.loop_strip.specs.declared.given.Press.TheVariants.{Down, Up, Hit}
 
 -- what a strip is seen as: its loop over addresses, and its tape
 pub record StripOf : Type 0 where
@@ -79,8 +80,12 @@ pub record Did (act : ℕ → Loop Sound → Loop Sound) (s s' : StripOf) (p p' 
 abbrev pub DidAlone : (ℕ → Loop Sound → Loop Sound) → StripOf → StripOf → Type 0
 DidAlone act s s' = (p : PoolOf) → Owns s p → Did act s s' p p
 
--- how a verb is given, at a frame and with this long press
-abbrev pub gives : Press → Verb → ℕ → ℕ → ℕ → Loop Sound → Loop Sound
-gives Down verb frame long_press = pressed verb frame
-gives Up verb frame long_press = released verb frame long_press
-gives Hit verb frame long_press = given verb
+-- what a verb does that is given in this way, at a frame and with this long press
+abbrev pub gives_by : Press → Verb → ℕ → ℕ → ℕ → Loop Sound → Loop Sound
+gives_by Down verb frame long_press = pressed verb frame
+gives_by Up verb frame long_press = released verb frame long_press
+gives_by Hit verb frame long_press = given verb
+
+-- what a given verb does
+abbrev pub gives : Given → ℕ → Loop Sound → Loop Sound
+gives g = gives_by g.press g.verb g.frame g.long_press

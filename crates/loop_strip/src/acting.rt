@@ -6,13 +6,13 @@ ghost use Rattle.looper_rules.specs.Loop.{face_of};
 ghost use Rattle.looper_rules.specs.Verbs.{acts, is_mode_of};
 ghost use Rattle.looper_rules.specs.Presses.{never_waits, with_waiting, with_press, given, given_at_once, pressed, released, released_long, is_press_of, is_long, waiting_acts, waiting_acts_from};
 ghost use Rattle.loop_states.specs.Moves.{carry};
-ghost use Rattle.loop_strip.specs.Strips.{Owns, Did, reach_in, gives};
+ghost use Rattle.loop_strip.specs.Strips.{Owns, Did, reach_in, gives, gives_by};
 ghost use Rattle.loop_strip.specs.Parts.{loop_of, strip_of, IsWhole};
 ghost use Rattle.loop_strip.specs.Moving.{IsAllowed};
 ghost use Rattle.loop_strip.specs.Openings.{released_as};
 
+use crate::given::{Given, Press};
 use crate::parts::Parts;
-use crate::press::Press;
 use loop_states::{Move, decide};
 use loop_tape::Pool;
 use sl_commands::{Held, Mode, Verb};
@@ -210,25 +210,28 @@ impl Parts {
     }
 
     /// A verb given in this way.
-    pub(crate) fn give(
-        &mut self,
-        pool: &mut Pool,
-        press: Press,
-        verb: Verb,
-        frame: u64,
-        long_press: u32,
-    )
+    fn give_by(&mut self, pool: &mut Pool, press: Press, given: Given)
         requires whole { IsWhole self.old }
         requires owns { Owns (strip_of self.old) pool.old }
-        ensures did { Did (gives press verb frame long_press) (strip_of self.old)
-            (strip_of self.new) pool.old pool.new }
+        ensures did { Did (gives_by press given.verb given.frame given.long_press)
+            (strip_of self.old) (strip_of self.new) pool.old pool.new }
         ensures whole { IsWhole self.new }
     {
         match press {
-            Press::Down => self.press(pool, verb, frame),
-            Press::Up => self.release(pool, verb, frame, long_press),
-            Press::Hit => self.give_verb(pool, verb),
+            Press::Down => self.press(pool, given.verb, given.frame),
+            Press::Up => self.release(pool, given.verb, given.frame, given.long_press),
+            Press::Hit => self.give_verb(pool, given.verb),
         }
+    }
+
+    /// A verb given.
+    pub(crate) fn give(&mut self, pool: &mut Pool, given: Given)
+        requires whole { IsWhole self.old }
+        requires owns { Owns (strip_of self.old) pool.old }
+        ensures did { Did (gives given) (strip_of self.old) (strip_of self.new) pool.old pool.new }
+        ensures whole { IsWhole self.new }
+    {
+        self.give_by(pool, given.press, given);
     }
 
     /// The waiting verb acts, where there is one.

@@ -1,7 +1,9 @@
 //! What holds of several calls together.
 
-ghost use Rattle.std.specs.Prelude.{◌≡◌, ◌≤◌, ◌+◌, true, false, length};
+ghost use Rattle.std.specs.Prelude.{◌≡◌, ◌≤◌, ◌+◌, true, false, List, length};
 ghost use Rattle.sl_base.specs.Limits.{max_list_frames};
+ghost use Rattle.sl_base.specs.Sounds.{Sound};
+ghost use Rattle.sl_commands.specs.declared.Verb.TheVariants.{Undo, Redo};
 ghost use Rattle.sl_commands.specs.declared.Mode.TheVariants.{Off};
 ghost use Rattle.looper_rules.specs.Room.{chunks_of};
 ghost use Rattle.sl_commands.specs.declared.Started.TheVariants.{Ok as Granted};
@@ -9,11 +11,13 @@ ghost use Rattle.looper_rules.specs.Layers.{current_list};
 ghost use Rattle.looper_rules.specs.Opening.{opening, opening_tape};
 ghost use Rattle.looper_rules.specs.Loop.{length_of};
 ghost use Rattle.looper_rules.specs.History.{settled};
-ghost use Rattle.loop_strip.specs.Strips.{seen, reach_in, Owns};
+ghost use Rattle.looper_rules.specs.Presses.{given};
+ghost use Rattle.loop_tape.specs.Pools.{PoolOf};
+ghost use Rattle.loop_strip.specs.Strips.{StripOf, seen, reach_in, Owns, Did};
 ghost use Rattle.loop_strip.specs.Moving.{IsAtRest};
-ghost use Rattle.loop_strip.specs.Laws.{IsRecording, overdubbed};
+ghost use Rattle.loop_strip.specs.Laws.{IsRecording, HasOverdubbed, overdubbed};
 
-use crate::press::Press;
+use crate::given::Given;
 use crate::strip::Strip;
 use loop_tape::Pool;
 use sl_base::Frame;
@@ -27,8 +31,6 @@ pub fn a_recording_is_what_was_played(
     pool: &mut Pool,
     input: &[Frame],
     heard: &mut [Frame],
-    frame: u64,
-    long_press: u32,
 )
     requires owns { Owns strip.old pool.old }
     requires same_length { length input.now ≡ length heard.old }
@@ -44,9 +46,9 @@ pub fn a_recording_is_what_was_played(
     ensures recording { IsRecording input.now (seen strip.new pool.new) }
     ensures owns { Owns strip.new pool.new }
 {
-    strip.give(pool, Press::Hit, Verb::Rec, frame, long_press);
+    strip.give(pool, Given::hit(Verb::Rec));
     strip.play(pool, input, heard);
-    strip.give(pool, Press::Hit, Verb::Rec, frame, long_press);
+    strip.give(pool, Given::hit(Verb::Rec));
 }
 
 /// `overdub` is hit on a loop at rest at its first place, one turn is played for which there is
@@ -57,8 +59,6 @@ pub fn an_overdub_of_one_turn_is_on_top(
     pool: &mut Pool,
     input: &[Frame],
     heard: &mut [Frame],
-    frame: u64,
-    long_press: u32,
 )
     requires owns { Owns strip.old pool.old }
     requires same_length { length input.now ≡ length heard.old }
@@ -78,55 +78,34 @@ pub fn an_overdub_of_one_turn_is_on_top(
     ensures heard { heard.new ≡ current_list (seen strip.old pool.old).stack.layers }
     ensures owns { Owns strip.new pool.new }
 {
-    strip.give(pool, Press::Hit, Verb::Overdub, frame, long_press);
+    strip.give(pool, Given::hit(Verb::Overdub));
     strip.play(pool, input, heard);
-    strip.give(pool, Press::Hit, Verb::Overdub, frame, long_press);
+    strip.give(pool, Given::hit(Verb::Overdub));
 }
 
-/// `overdub` is hit on a loop at rest that grants it, any frames are played, and `undo` is hit: the
-/// list is the one from before, and so are all layers, whether the overdub was still going on or
-/// ended for want of room.
-#[tactic(auto, using(crate::proofs::LawLemmas::taking_back))]
-pub fn undo_takes_an_overdub_back(
-    strip: &mut Strip,
-    pool: &mut Pool,
-    input: &[Frame],
-    heard: &mut [Frame],
-    frame: u64,
-    long_press: u32,
-)
-    requires owns { Owns strip.old pool.old }
-    requires same_length { length input.now ≡ length heard.old }
-    requires at_once { (seen strip.old pool.old).controls.quantize ≡ 0 }
-    requires rests { IsAtRest (seen strip.old pool.old).deck.mode }
-    requires granted { opening (reach_in strip.old pool.old) false (seen strip.old pool.old).stack
-        ≡ Granted }
-    ensures layers { (seen strip.new pool.new).stack.layers ≡ (seen strip.old pool.old).stack.layers }
-    ensures list { current_list (seen strip.new pool.new).stack.layers ≡ current_list
-        (seen strip.old pool.old).stack.layers }
-    ensures owns { Owns strip.new pool.new }
-{
-    strip.give(pool, Press::Hit, Verb::Overdub, frame, long_press);
-    strip.play(pool, input, heard);
-    strip.give(pool, Press::Hit, Verb::Undo, frame, long_press);
-}
+/// `overdub` is given at once to a loop at rest that grants it, any frames are played, and `undo` is
+/// given, which leaves a strip and a pool each: the list is the one from before, and so are all
+/// layers, whether the overdub was still going on or ended for want of room.
+pub fn undo_takes_an_overdub_back()
+    ensures layers { (xs : List Sound) (old pressed played undone : StripOf)
+        (p p1 p2 p3 : PoolOf) → HasOverdubbed xs old pressed played p p1 p2 →
+        Did (given Undo) played undone p2 p3 →
+        (seen undone p3).stack.layers ≡ (seen old p).stack.layers }
+    ensures list { (xs : List Sound) (old pressed played undone : StripOf)
+        (p p1 p2 p3 : PoolOf) → HasOverdubbed xs old pressed played p p1 p2 →
+        Did (given Undo) played undone p2 p3 →
+        current_list (seen undone p3).stack.layers ≡ current_list (seen old p).stack.layers }
+{}
 
-/// `undo` is hit where a layer is left once an open one is closed, and `redo` behind it: the layer
+/// `undo` is given where a layer is left once an open one is closed, and `redo` behind it: the layer
 /// is there again, frame for frame, and all the rest of the stack.
-#[tactic(auto, using(crate::proofs::LawLemmas::giving_back))]
-pub fn redo_gives_an_undone_layer_back(
-    strip: &mut Strip,
-    pool: &mut Pool,
-    frame: u64,
-    long_press: u32,
-)
-    requires owns { Owns strip.old pool.old }
-    requires some { 1 ≤ length (settled (seen strip.old pool.old)).stack.layers }
-    ensures stack { (seen strip.new pool.new).stack ≡ (settled (seen strip.old pool.old)).stack }
-    ensures list { current_list (seen strip.new pool.new).stack.layers ≡ current_list
-        (settled (seen strip.old pool.old)).stack.layers }
-    ensures owns { Owns strip.new pool.new }
-{
-    strip.give(pool, Press::Hit, Verb::Undo, frame, long_press);
-    strip.give(pool, Press::Hit, Verb::Redo, frame, long_press);
-}
+pub fn redo_gives_an_undone_layer_back()
+    ensures stack { (old undone redone : StripOf) (p p1 p2 : PoolOf) →
+        Did (given Undo) old undone p p1 → Did (given Redo) undone redone p1 p2 →
+        1 ≤ length (settled (seen old p)).stack.layers →
+        (seen redone p2).stack ≡ (settled (seen old p)).stack }
+    ensures overdub { (xs : List Sound) (old pressed played undone redone : StripOf)
+        (p p1 p2 p3 p4 : PoolOf) → HasOverdubbed xs old pressed played p p1 p2 →
+        Did (given Undo) played undone p2 p3 → Did (given Redo) undone redone p3 p4 →
+        (seen redone p4).stack ≡ (settled (seen played p2)).stack }
+{}

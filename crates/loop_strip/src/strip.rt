@@ -24,11 +24,11 @@ ghost use Rattle.loop_strip.specs.Loading.{IsNew, loads};
 
 use crate::deck::{Controls, Deck};
 use crate::parts::Parts;
-use crate::press::Press;
+use crate::given::Given;
 use layer_memory::Layers;
 use loop_tape::Pool;
 use sl_base::{Frame, Memory};
-use sl_commands::{Control, Face, Mode, StripSettings, Verb};
+use sl_commands::{Control, Face, Mode, StripSettings};
 use std::alloc::Global;
 use std::marker::Model;
 
@@ -89,13 +89,12 @@ impl Strip {
         self.parts.load(pool, frames, cycle);
     }
 
-    /// A verb given. `frame` is the number of the coming frame, and `long_press` the frames of a
-    /// long press.
-    pub fn give(&mut self, pool: &mut Pool, press: Press, verb: Verb, frame: u64, long_press: u32)
+    /// A verb given.
+    pub fn give(&mut self, pool: &mut Pool, given: Given)
         requires owns { Owns self.old pool.old }
-        ensures { Did (gives press verb frame long_press) self.old self.new pool.old pool.new }
+        ensures { Did (gives given) self.old self.new pool.old pool.new }
     {
-        self.parts.give(pool, press, verb, frame, long_press);
+        self.parts.give(pool, given);
     }
 
     /// The waiting verb acts, where there is one.

@@ -3,7 +3,7 @@
 ghost use Rattle.std.specs.Prelude.{◌≡◌, length};
 ghost use Rattle.loop_strip.specs.Strips.{Owns};
 
-use crate::{Pool, Press, Strip};
+use crate::{Given, Pool, Press, Strip};
 use sl_base::{Frame, Memory, widen};
 use sl_commands::{Control, StripSettings, Verb};
 use std::alloc::Global;
@@ -24,7 +24,15 @@ fn give(strip: &mut Strip, pool: &mut Pool, hits: &[(u64, Press, Verb)], frame: 
     for i in 0..hits.len() {
         let (at, press, verb) = hits[i];
         if at == frame {
-            strip.give(pool, press, verb, frame, 2);
+            strip.give(
+                pool,
+                Given {
+                    press,
+                    verb,
+                    frame,
+                    long_press: 2,
+                },
+            );
         }
     }
 }
@@ -124,12 +132,12 @@ fn is_clamped(strip: &mut Strip, pool: &mut Pool) -> bool
         left: 8388607,
         right: 8388607,
     };
-    strip.give(pool, Press::Hit, Verb::Rec, 0, 2);
+    strip.give(pool, Given::hit(Verb::Rec));
     let first = hears_frame(strip, pool, loud, Frame::silence());
-    strip.give(pool, Press::Hit, Verb::Rec, 1, 2);
-    strip.give(pool, Press::Hit, Verb::Overdub, 1, 2);
+    strip.give(pool, Given::hit(Verb::Rec));
+    strip.give(pool, Given::hit(Verb::Overdub));
     let second = hears_frame(strip, pool, loud, loud);
-    strip.give(pool, Press::Hit, Verb::Overdub, 2, 2);
+    strip.give(pool, Given::hit(Verb::Overdub));
     first && second && hears_frame(strip, pool, Frame::silence(), loud)
 }
 
@@ -149,7 +157,7 @@ fn plays_on(strip: &mut Strip, pool: &mut Pool) -> bool
     requires owns { Owns strip.old pool.old }
 {
     let paused = hears(strip, pool, 9, 0);
-    strip.give(pool, Press::Hit, Verb::Pause, 1, 2);
+    strip.give(pool, Given::hit(Verb::Pause));
     let first = hears(strip, pool, 9, 1);
     let second = hears(strip, pool, 9, 2);
     let third = hears(strip, pool, 9, 3);
@@ -166,13 +174,13 @@ fn goes_round(alloc: Global) -> Result<bool, Memory> {
 fn is_round(strip: &mut Strip, pool: &mut Pool) -> bool
     requires owns { Owns strip.old pool.old }
 {
-    strip.give(pool, Press::Hit, Verb::Rec, 0, 2);
+    strip.give(pool, Given::hit(Verb::Rec));
     let first = hears(strip, pool, 1, 0);
     let second = hears(strip, pool, 2, 0);
     let third = hears(strip, pool, 3, 0);
-    strip.give(pool, Press::Hit, Verb::Rec, 3, 2);
+    strip.give(pool, Given::hit(Verb::Rec));
     let forward = hears_all(strip, pool, &[1, 2, 3, 1, 2, 3, 1, 2]);
-    strip.give(pool, Press::Hit, Verb::Reverse, 11, 2);
+    strip.give(pool, Given::hit(Verb::Reverse));
     first && second && third && forward && hears_all(strip, pool, &[3, 2, 1, 3, 2, 1, 3, 2])
 }
 

@@ -12,24 +12,21 @@ ghost use Rattle.looper_tracks.specs.Tracks.{IsFreeAt};
 
 use crate::asker::Asker;
 use crate::track::Track;
-use loop_strip::{Pool, Press};
-use sl_commands::{Control, Face, Globals, Target, Verb};
+use loop_strip::{Given, Pool};
+use sl_commands::{Control, Face, Globals, Target};
 
 /// A verb given to all.
 fn give_all(
     tracks: &mut [Track],
     pool: &mut Pool,
-    press: Press,
-    verb: Verb,
-    frame: u64,
-    long_press: u32,
+    given: Given,
 )
     requires inside { AreIn pool.old tracks.old }
-    ensures { DidAll (swept itself (on_loop (gives press verb frame long_press)))
+    ensures { DidAll (swept itself (on_loop (gives given)))
         tracks.old tracks.new pool.old pool.new }
 {
     for k in 0..tracks.len() {
-        tracks[k].give(pool, press, verb, frame, long_press);
+        tracks[k].give(pool, given);
     }
 }
 
@@ -38,17 +35,14 @@ fn give_one(
     tracks: &mut [Track],
     pool: &mut Pool,
     index: usize,
-    press: Press,
-    verb: Verb,
-    frame: u64,
-    long_press: u32,
+    given: Given,
 )
     requires inside { AreIn pool.old tracks.old }
-    ensures { DidAll (at_index index (on_loop (gives press verb frame long_press)))
+    ensures { DidAll (at_index index (on_loop (gives given)))
         tracks.old tracks.new pool.old pool.new }
 {
     if index < tracks.len() {
-        tracks[index].give(pool, press, verb, frame, long_press);
+        tracks[index].give(pool, given);
     }
 }
 
@@ -58,26 +52,20 @@ pub(crate) fn give_to(
     pool: &mut Pool,
     target: Target,
     selected: u8,
-    press: Press,
-    verb: Verb,
-    frame: u64,
-    long_press: u32,
+    given: Given,
 )
     requires inside { AreIn pool.old tracks.old }
-    ensures { DidAll (at_target target selected (on_loop (gives press verb frame long_press)))
+    ensures { DidAll (at_target target selected (on_loop (gives given)))
         tracks.old tracks.new pool.old pool.new }
 {
     match target {
-        Target::One(index) => give_one(tracks, pool, index as usize, press, verb, frame, long_press),
-        Target::All => give_all(tracks, pool, press, verb, frame, long_press),
+        Target::One(index) => give_one(tracks, pool, index as usize, given),
+        Target::All => give_all(tracks, pool, given),
         Target::Selected => give_one(
             tracks,
             pool,
             selected as usize,
-            press,
-            verb,
-            frame,
-            long_press,
+            given,
         ),
     }
 }

@@ -24,11 +24,11 @@ ghost use Rattle.looper_tracks.specs.Track.{track_in, DidTrack, DidTrackAlone};
 ghost use Rattle.looper_tracks.specs.Beginnings.{new_track, MayLoad};
 
 use crate::asker::{Asker, loop_asker, session_asker};
-use loop_strip::{Pool, Press, Strip};
+use loop_strip::{Given, Pool, Strip};
 use mixer_fades::{Gain, Sum, add_span};
 use quantise_sync::{SyncSetup, boundary};
 use sl_base::{Frame, Memory};
-use sl_commands::{Control, Face, Globals, StripSettings, Verb};
+use sl_commands::{Control, Face, Globals, StripSettings};
 use std::alloc::Global;
 use std::marker::Model;
 
@@ -129,16 +129,13 @@ impl Track {
     pub(crate) fn give(
         &mut self,
         pool: &mut Pool,
-        press: Press,
-        verb: Verb,
-        frame: u64,
-        long_press: u32,
+        given: Given,
     )
         requires owns { Owns self.old.strip pool.old }
-        ensures { DidTrack (on_loop (gives press verb frame long_press))
+        ensures { DidTrack (on_loop (gives given))
             self.old self.new pool.old pool.new }
     {
-        self.strip.give(pool, press, verb, frame, long_press);
+        self.strip.give(pool, given);
     }
 
     /// The value of a control of its loop.

@@ -21,10 +21,10 @@ use crate::faces::take_faces;
 use crate::track::Track;
 use crate::span::{any_waits, play_all, quiet_frames};
 use crate::sweep::{give_to, meet_boundaries, pin_all, pin_one, release_all, release_one, set_to};
-use loop_strip::{Pool, Press};
+use loop_strip::{Given, Pool};
 use mixer_fades::Sum;
 use sl_base::Frame;
-use sl_commands::{Control, Face, Globals, Target, Verb};
+use sl_commands::{Control, Face, Globals, Target};
 use std::marker::Model;
 
 /// The tracks by index, over one pool.
@@ -58,13 +58,10 @@ impl Tracks {
         &mut self,
         target: Target,
         selected: u8,
-        press: Press,
-        verb: Verb,
-        frame: u64,
-        long_press: u32,
+        given: Given,
     )
         ensures { DidTracks
-            (at_target target selected (on_loop (gives press verb frame long_press)))
+            (at_target target selected (on_loop (gives given)))
             self.old self.new }
     {
         give_to(
@@ -72,10 +69,7 @@ impl Tracks {
             &mut self.pool,
             target,
             selected,
-            press,
-            verb,
-            frame,
-            long_press,
+            given,
         );
     }
 

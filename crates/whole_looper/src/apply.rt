@@ -13,7 +13,7 @@ ghost use Rattle.whole_looper.specs.Loopers.{entry_at};
 
 use crate::applied::Applied;
 use crate::looper::Looper;
-use loop_strip::Press;
+use loop_strip::{Given, Press};
 use sl_commands::{Command, Control, Entry, Reply, Target, Verb, What};
 
 impl Applied {
@@ -50,18 +50,28 @@ impl Looper {
     }
 
     /// A verb given to the loops of a target.
-    fn give(&mut self, frame: u64, target: Target, press: Press, verb: Verb)
-        ensures { self.new ≡
-            on_target target (gives press verb frame self.old.globals.long_press) self.old }
+    fn give(&mut self, target: Target, given: Given)
+        ensures { self.new ≡ on_target target (gives given) self.old }
     {
-        self.tracks.give(
-            target,
-            self.globals.selected_loop_num,
+        self.tracks
+            .give(target, self.globals.selected_loop_num, given);
+    }
+
+    /// A verb given at a frame, with the looper's long press.
+    fn given(&self, press: Press, verb: Verb, frame: u64) -> Given
+        ensures { result ≡ record {
+          press = press;
+          verb = verb;
+          frame = frame;
+          long_press = self.now.globals.long_press;
+        } }
+    {
+        Given {
             press,
             verb,
             frame,
-            self.globals.long_press,
-        );
+            long_press: self.globals.long_press,
+        }
     }
 
     /// A control set of the loops of a target.
@@ -132,15 +142,18 @@ impl Looper {
     {
         match &entry.command {
             Command::Down(target, verb) => {
-                self.give(entry.frame, *target, Press::Down, *verb);
+                let given = self.given(Press::Down, *verb, entry.frame);
+                self.give(*target, given);
                 Applied::answered(None)
             }
             Command::Up(target, verb) => {
-                self.give(entry.frame, *target, Press::Up, *verb);
+                let given = self.given(Press::Up, *verb, entry.frame);
+                self.give(*target, given);
                 Applied::answered(None)
             }
             Command::Hit(target, verb) => {
-                self.give(entry.frame, *target, Press::Hit, *verb);
+                let given = self.given(Press::Hit, *verb, entry.frame);
+                self.give(*target, given);
                 Applied::answered(None)
             }
             Command::Set(target, control, value) => {

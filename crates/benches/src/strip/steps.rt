@@ -4,7 +4,7 @@ ghost use Rattle.std.specs.Prelude.{◌≡◌, length};
 ghost use Rattle.loop_strip.specs.Strips.{Owns};
 
 use crate::strip::FRAMES;
-use loop_strip::{Pool, Press, Strip};
+use loop_strip::{Given, Pool, Strip};
 use sl_base::Frame;
 use sl_commands::Verb;
 
@@ -13,7 +13,7 @@ pub fn hit(strip: &mut Strip, pool: &mut Pool, verb: Verb)
     requires { Owns strip.old pool.old }
     ensures { Owns strip.new pool.new }
 {
-    strip.give(pool, Press::Hit, verb, 0, 24000);
+    strip.give(pool, Given::hit(verb));
 }
 
 /// So many spans.

@@ -5,5 +5,5 @@ use Rattle.looper_tracks.proofs.sweep.give_all.Given as goal
 
 abbrev pub invariant-loop-k : goal.invariant-loop-k
 invariant-loop-k l =
-    Sweeping (on_loop (gives l.press l.verb l.frame l.long_press)) l.fn.tracks l.fn.pool l.tracks
+    Sweeping (on_loop (gives l.given)) l.fn.tracks l.fn.pool l.tracks
     l.pool l.k
