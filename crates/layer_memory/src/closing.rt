@@ -32,7 +32,7 @@ impl Layers {
             None => {}
             Some(top) => {
                 self.fill.cut(cut);
-                self.fill.check();
+                self.fill.facts();
                 let cycle = cycle_at(top.cycle, self.fill.len());
                 let seams = self.fill.seams();
                 let end = self.tape.len();
@@ -78,8 +78,8 @@ impl Layers {
         ensures writing { self.new.writing ≡ true }
         ensures tape { self.new.tape ≡ self.old.tape }
     {
-        self.fill.check();
-        self.closed.check();
+        self.fill.facts();
+        self.closed.facts();
         let length = self.closed.len();
         let seams = self.closed.seams();
         if self.fill.len() + length > MAX_LIST_FRAMES || self.seams + seams > MAX_SEAMS {

@@ -83,25 +83,13 @@ impl Layers {
         })
     }
 
-    /// What always holds: all addresses are below the tape length.
-    #[tactic(auto, using(crate::proofs::KeptLemmas::steps))]
-    pub(crate) fn check(&self)
-        ensures low { StackBelow self.now.tape.len self.now.stack }
-        ensures tape { self.now.stack.tape ≡ self.now.tape.len }
-        ensures whole { IsWhole self.now.tape }
-    {
-        self.tape.check();
-        self.fill.check();
-    }
-
-    /// What layers that share a tape always keep: it is stated for whoever calls this, which does
-    /// nothing.
-    pub fn shared(&self)
+    /// What always holds of layers that share a tape.
+    pub fn facts(&self)
         ensures { IsShared self.now }
     {
-        self.tape.check();
-        self.fill.check();
-        self.closed.check();
+        self.tape.facts();
+        self.fill.facts();
+        self.closed.facts();
     }
 
     /// The end of the current layer, 0 without one.
@@ -110,7 +98,7 @@ impl Layers {
         ensures value { result ≡ current_end self.now.stack.layers }
         ensures within { result ≤ self.now.stack.tape }
     {
-        self.fill.check();
+        self.fill.facts();
         match self.top {
             None => self.closed.end(),
             Some(top) => top.end,

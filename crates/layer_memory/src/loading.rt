@@ -25,7 +25,7 @@ fn push_all(tape: &mut Tape, pool: &mut Pool, frames: &[Frame])
     ensures { Appended tape.old tape.new pool.old pool.new frames.now }
 {
     for i in 0..frames.len() {
-        tape.check();
+        tape.facts();
         let _pushed = tape.push(pool, frames[i]);
     }
 }
@@ -81,7 +81,7 @@ impl Layers {
             pool.old }
         ensures { Loads frames.now cycle self.old self.new pool.old pool.new }
     {
-        self.check();
+        self.facts();
         self.lay(pool, frames, cycle);
     }
 }

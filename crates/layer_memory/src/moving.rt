@@ -34,7 +34,7 @@ impl Layers {
         ensures writing { self.new.writing ≡ false }
         ensures tape { self.new.tape ≡ self.old.tape }
     {
-        self.closed.check();
+        self.closed.facts();
         self.seams += self.closed.redo_seams();
         self.closed.redo()
     }

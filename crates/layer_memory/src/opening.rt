@@ -20,7 +20,7 @@ impl Layers {
         ensures answer { result ≡ opening (reach self.now pool.now) empty self.now.stack }
         ensures opens { OnOpen result (IsOpening empty self.now.stack) }
     {
-        self.closed.check();
+        self.closed.facts();
         let more = if empty { 0 } else { self.closed.seams() };
         if self.closed.counts().0 >= MAX_LAYERS {
             return Started::Layers;
@@ -46,7 +46,7 @@ impl Layers {
         ensures writing { self.new.writing ≡ true }
         ensures cut { Cut self.old.tape self.new.tape pool.old pool.new }
     {
-        self.closed.check();
+        self.closed.facts();
         let end = self.opening_tape();
         self.closed.drop_redo();
         self.tape.cut_to(pool, end);
@@ -69,7 +69,7 @@ impl Layers {
         ensures writing { self.new.writing ≡ true }
         ensures cut { Cut self.old.tape self.new.tape pool.old pool.new }
     {
-        self.closed.check();
+        self.closed.facts();
         let at = self.opening_tape();
         self.closed.drop_redo();
         self.tape.cut_to(pool, at);
@@ -114,7 +114,7 @@ impl Layers {
         match self.answer(pool, empty) {
             Started::Ok => {
                 self.begin(pool, empty);
-                self.check();
+                self.facts();
                 Started::Ok
             }
             Started::Layers => Started::Layers,

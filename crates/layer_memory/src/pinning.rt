@@ -17,7 +17,7 @@ impl Layers {
         ensures writing { self.new.writing ≡ self.old.writing }
         ensures tape { self.new.tape ≡ self.old.tape }
     {
-        self.closed.check();
+        self.closed.facts();
         self.pinned.set_to(self.closed.current());
         self.pin = Some(self.tape.len());
     }
@@ -30,7 +30,7 @@ impl Layers {
         ensures writing { self.new.writing ≡ self.old.writing }
         ensures tape { self.new.tape ≡ self.old.tape }
     {
-        self.fill.check();
+        self.fill.facts();
         self.pinned.set_to(self.fill.pieces());
         self.fill.freeze();
         self.pin = Some(self.tape.len());

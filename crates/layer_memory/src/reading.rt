@@ -33,7 +33,7 @@ impl Layers {
         requires place { place < current_length self.now.stack.layers }
         ensures { result ≡ get_or (current_list (seen self.now pool.now).layers) place silence }
     {
-        self.check();
+        self.facts();
         let address = self.address(place);
         self.tape.get(pool, address)
     }
@@ -46,7 +46,7 @@ impl Layers {
         ensures { out.new ≡ take (length out.old)
             (drop place (current_list (seen self.now pool.now).layers)) }
     {
-        self.check();
+        self.facts();
         let _length = (self.closed.len(), self.fill.len());
         match self.top {
             None => read_pieces(
@@ -103,7 +103,7 @@ impl Layers {
         requires place { place < length (pinned_list self.now.stack.pin) }
         ensures { result ≡ get_or (pinned_list (seen self.now pool.now).pin) place silence }
     {
-        self.check();
+        self.facts();
         let address = self.pinned_address(place);
         self.tape.get(pool, address)
     }
@@ -117,7 +117,7 @@ impl Layers {
         ensures { out.new ≡ take (length out.old)
             (drop place (pinned_list (seen self.now pool.now).pin)) }
     {
-        self.check();
+        self.facts();
         let _length = self.pinned.len();
         read_pieces(
             &self.tape,
@@ -144,7 +144,7 @@ impl Layers {
     }
 
     /// The length of the pinned list in frames, 0 where no pin stands.
-    pub fn saved_length(&self) -> u32
+    pub fn pinned_length(&self) -> u32
         ensures { result ≡ length (pinned_list self.now.stack.pin) }
     {
         match self.pin {

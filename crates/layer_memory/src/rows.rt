@@ -46,7 +46,7 @@ impl Layers {
         ensures alone { AreAlone result.1 place result.0 self.now.stack }
         ensures below { 1 ≤ result.1 → result.0 + result.1 ≤ self.now.tape.len }
     {
-        self.fill.check();
+        self.fill.facts();
         let count = self.fill.fresh_cells(place, count);
         let address = self.fill.address(place);
         (address, count)
@@ -65,7 +65,7 @@ impl Layers {
         ensures tape { self.new.tape ≡ self.old.tape }
         ensures set { AreSet self.old.tape self.old.tape pool.old pool.new address frames.now }
     {
-        self.tape.check();
+        self.tape.facts();
         self.tape.set_frames(pool, address, frames);
         self.fill.break_streak();
     }
@@ -90,14 +90,14 @@ impl Layers {
             PushedAll self.old.tape self.new.tape pool.old pool.new (take result frames.now) }
         ensures whole { IsWhole self.new.tape }
     {
-        self.tape.check();
-        self.fill.check();
+        self.tape.facts();
+        self.fill.facts();
         let count = self.fill.write_span(place, frames.len() as u32);
         if count == 0 {
             return 0;
         }
         self.tape.push_frames(pool, &frames[..count as usize]);
-        self.tape.check();
+        self.tape.facts();
         count
     }
 
@@ -113,7 +113,7 @@ impl Layers {
         ensures writes { WritesSpan (take result frames.now) place self.old self.new pool.old
             pool.new }
     {
-        self.check();
+        self.facts();
         let (address, fresh) = self.fresh_ahead(place, most_of(frames));
         let count = fresh.min(CHUNK_FRAMES - address % CHUNK_FRAMES) as usize;
         if count == 0 {
@@ -136,7 +136,7 @@ impl Layers {
         ensures writes { WritesSpan (take result frames.now) place self.old self.new pool.old
             pool.new }
     {
-        self.check();
+        self.facts();
         let old = self.old_ahead(place, most_of(frames));
         let most = old.min(self.tape.rest()) as usize;
         if most == 0 {

@@ -29,7 +29,7 @@ impl Layers {
         ensures alone { IfSome result (λ a. Alone place a self.now.stack) }
         ensures within { IfSome result (λ a. a < self.now.tape.len) }
     {
-        self.fill.check();
+        self.fill.facts();
         let address = self.fill.address(place);
         if self.fill.marks(address) {
             Some(address)
@@ -52,7 +52,7 @@ impl Layers {
             at self.new.tape pool.new b ≡ at self.old.tape pool.old b }
         ensures keeps { Keeps self.old self.new pool.old pool.new }
     {
-        self.tape.check();
+        self.tape.facts();
         self.tape.set(pool, address, frame);
         self.fill.break_streak();
     }
@@ -68,7 +68,7 @@ impl Layers {
         ensures seams { IsTrue result → total_seams self.now.stack.layers
             + (if is_some self.now.stack.streak then 0 else 2) ≤ max_seams }
     {
-        self.fill.check();
+        self.fill.facts();
         if !self.fill.has_streak() && self.seams > MAX_SEAMS - 2 {
             return false;
         }
@@ -99,13 +99,13 @@ impl Layers {
             Pushed self.old.tape self.new.tape pool.old pool.new frame }
         ensures whole { IsTrue result → IsWhole self.new.tape }
     {
-        self.tape.check();
-        self.fill.check();
+        self.tape.facts();
+        self.fill.facts();
         let more = self.fill.more();
         if !self.tape.push(pool, frame) {
             return false;
         }
-        self.tape.check();
+        self.tape.facts();
         self.seams += more;
         self.fill.write(place, how);
         true
@@ -121,7 +121,7 @@ impl Layers {
         requires stale { meets_fresh how place self.old.stack ≡ false }
         ensures { Written how place frame self.old self.new pool.old pool.new result }
     {
-        self.check();
+        self.facts();
         if !self.may_add(how) {
             return false;
         }
@@ -138,7 +138,7 @@ impl Layers {
         requires follows { Follows self.old.stack.streak how place }
         ensures { Written how place frame self.old self.new pool.old pool.new result }
     {
-        self.check();
+        self.facts();
         match self.fresh_at(place) {
             Some(address) => {
                 self.rewrite(pool, address, frame);

@@ -69,7 +69,7 @@ impl Parts {
             Move::Begin(verb) => self.begin(pool, verb),
             _ => {
                 self.move_alone(next);
-                self.layers.shared();
+                self.layers.facts();
             }
         }
     }
@@ -99,7 +99,7 @@ impl Parts {
             pool.now pool.now }
         ensures whole { IsWhole self.new }
     {
-        self.layers.shared();
+        self.layers.facts();
         self.deck.waiting = verb;
     }
 
@@ -112,7 +112,7 @@ impl Parts {
             pool.now pool.now }
         ensures whole { IsWhole self.new }
     {
-        self.layers.shared();
+        self.layers.facts();
         self.deck.press = press;
     }
 

@@ -98,7 +98,7 @@ impl Parts {
         ensures did { DidAlone (sets control value) (strip_of self.old) (strip_of self.new) }
         ensures whole { IsWhole self.new }
     {
-        self.layers.shared();
+        self.layers.facts();
         self.controls.set(control, value);
     }
 }

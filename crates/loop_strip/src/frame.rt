@@ -89,7 +89,7 @@ impl Parts {
     {
         match self.layers.start_layer(pool, true) {
             Started::Ok => {
-                self.layers.shared();
+                self.layers.facts();
                 self.deck.mode = Mode::Recording;
                 self.deck.pos = 0;
                 self.deck.backward = false;
@@ -213,7 +213,7 @@ impl Parts {
         self.wake(pool, frame);
         let mode = self.deck.mode;
         self.make_ready(mode);
-        self.layers.shared();
+        self.layers.facts();
     }
 
     /// The frame that is heard in this mode.

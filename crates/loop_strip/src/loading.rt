@@ -29,7 +29,7 @@ impl Parts {
         ensures whole { IsWhole self.new }
     {
         self.layers.load(pool, frames, cycle);
-        self.layers.shared();
+        self.layers.facts();
         self.deck.mode = Mode::Paused;
     }
 }

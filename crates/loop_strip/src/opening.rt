@@ -29,7 +29,7 @@ impl Parts {
     {
         match self.layers.start_layer(pool, true) {
             Started::Ok => {
-                self.layers.shared();
+                self.layers.facts();
                 self.deck.mode = Mode::Recording;
                 self.deck.pos = 0;
                 self.deck.backward = false;
@@ -53,7 +53,7 @@ impl Parts {
     {
         match self.layers.start_layer(pool, false) {
             Started::Ok => {
-                self.layers.shared();
+                self.layers.facts();
                 self.deck.mode = mode;
             }
             Started::Layers => self.refuse(),
@@ -74,7 +74,7 @@ impl Parts {
         ensures whole { IsWhole self.new }
     {
         if self.controls.rec_thresh > 0 {
-            self.layers.shared();
+            self.layers.facts();
             self.deck.mode = Mode::WaitStart;
             return;
         }

@@ -33,12 +33,12 @@ impl Parts {
         let how = how_in(mode, self.deck.backward);
         let pos = self.deck.pos;
         if self.layers.write(pool, pos, next, how) {
-            self.layers.shared();
+            self.layers.facts();
             self.advance_in(mode);
-            self.layers.shared();
+            self.layers.facts();
         } else {
             self.overrun(mode);
-            self.layers.shared();
+            self.layers.facts();
         }
     }
 
@@ -55,7 +55,7 @@ impl Parts {
         ensures writing { self.new.layers.writing ≡ is_writing self.new.deck.mode }
     {
         self.advance_in(mode);
-        self.layers.shared();
+        self.layers.facts();
     }
 
     /// A frame for which the loop is ready, by whether it is written.

@@ -160,9 +160,9 @@ impl Parts {
     {
         self.mix_row_in(mode, heard, input, next);
         let done = self.layers.write_span(pool, self.deck.pos, next);
-        self.layers.shared();
+        self.layers.facts();
         self.go_row(done as u32);
-        self.layers.shared();
+        self.layers.facts();
         done
     }
 

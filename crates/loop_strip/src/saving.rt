@@ -48,7 +48,7 @@ impl Parts {
         ensures whole { IsWhole self.new }
     {
         self.layers.pin();
-        self.layers.shared();
+        self.layers.facts();
         self.pinned = true;
     }
 
@@ -61,7 +61,7 @@ impl Parts {
         ensures whole { IsWhole self.new }
     {
         self.layers.release();
-        self.layers.shared();
+        self.layers.facts();
         self.pinned = false;
     }
 }

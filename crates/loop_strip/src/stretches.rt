@@ -181,7 +181,7 @@ impl Parts {
     {
         self.hear_stretch(pool, mode, input, heard);
         self.go_stretch(mode, heard.len() as u32);
-        self.layers.shared();
+        self.layers.facts();
     }
 
     /// The next frame alone.

@@ -181,10 +181,10 @@ impl Strip {
     }
 
     /// The length of the list that a save holds, in frames, 0 where none does.
-    pub fn saved_length(&self) -> u32
+    pub fn pinned_length(&self) -> u32
         ensures { (p : PoolOf) → result ≡ length (pinned_list (seen self.now p).stack.pin) }
     {
-        self.parts.layers.saved_length()
+        self.parts.layers.pinned_length()
     }
 
     /// The frame at a place of the pinned list.

@@ -32,7 +32,7 @@ impl Tape {
         ensures { (k : ℕ) → k < length out.old →
             get_or out.new k silence ≡ at self.now pool.now (address + k) }
     {
-        let _length = self.len();
+        self.facts();
         let mut done = 0;
         while done < out.len() {
             let from = address + done as u32;

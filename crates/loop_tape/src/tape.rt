@@ -50,13 +50,11 @@ impl Tape {
     }
 
     /// What always holds of a tape.
-    pub fn check(&self)
+    pub fn facts(&self)
         ensures whole { IsWhole self.now }
         ensures within { length self.now.chunks ≤ max_chunks }
         ensures short { self.now.len ≤ 134217728 }
-    {
-        let _length = self.len;
-    }
+    {}
 
     /// How many frames there are.
     pub fn len(&self) -> u32
@@ -98,7 +96,7 @@ impl Tape {
         requires below { address < self.old.len }
         ensures { IsSet self.old self.new pool.old pool.new address frame }
     {
-        pool.check();
+        pool.facts();
         let slot = self.slot_of(pool, address);
         pool.write(slot, frame);
     }
@@ -110,7 +108,7 @@ impl Tape {
         requires within { self.old.len % chunk_frames ≢ 0 }
         ensures { Pushed self.old self.new pool.old pool.new frame }
     {
-        pool.check();
+        pool.facts();
         let slot = self.chunks[(self.len / CHUNK_FRAMES) as usize] as usize * CHUNK_FRAMES as usize
             + (self.len % CHUNK_FRAMES) as usize;
         pool.write(slot, frame);
@@ -127,7 +125,7 @@ impl Tape {
         ensures free { IsFalse result ↔ (length pool.old.free ≡ 0) }
         ensures pushed { IsTrue result → Pushed self.old self.new pool.old pool.new frame }
     {
-        pool.check();
+        pool.facts();
         match pool.take() {
             None => false,
             Some(chunk) => {
@@ -184,7 +182,7 @@ impl Tape {
         requires within { self.old.len % chunk_frames + length frames.now ≤ chunk_frames }
         ensures { PushedAll self.old self.new pool.old pool.new frames.now }
     {
-        pool.check();
+        pool.facts();
         let slot = self.end_slot(pool);
         pool.write_frames(slot, frames);
         self.len += frames.len() as u32;
@@ -199,7 +197,7 @@ impl Tape {
         requires within { address % chunk_frames + length frames.now ≤ chunk_frames }
         ensures { AreSet self.old self.new pool.old pool.new address frames.now }
     {
-        pool.check();
+        pool.facts();
         let slot = self.slot_of(pool, address);
         pool.write_frames(slot, frames);
     }
@@ -212,7 +210,7 @@ impl Tape {
         ensures len { self.new.len ≡ (self.old.len - 1) / chunk_frames * chunk_frames }
         ensures cut { Cut self.old self.new pool.old pool.new }
     {
-        pool.check();
+        pool.facts();
         match self.chunks.pop() {
             None => {}
             Some(chunk) => {
@@ -232,7 +230,7 @@ impl Tape {
         ensures whole { IsWhole self.new }
         ensures cut { Cut self.old self.new pool.old pool.new }
     {
-        let _length = self.len;
+        self.facts();
         while self.len > length && (self.len - 1) / CHUNK_FRAMES * CHUNK_FRAMES >= length {
             self.give_chunk(pool);
         }

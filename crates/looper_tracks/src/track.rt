@@ -251,7 +251,7 @@ impl Track {
     pub(crate) fn pinned_length(&self) -> u32
         ensures { (p : PoolOf) → result ≡ length (pinned_list (seen self.now.strip p).stack.pin) }
     {
-        self.strip.saved_length()
+        self.strip.pinned_length()
     }
 
     /// The frames of the pinned list from a place on.

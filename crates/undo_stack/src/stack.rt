@@ -61,15 +61,13 @@ impl LayerStack {
 
     /// What always holds.
     #[tactic(auto, using(crate::proofs::StackLemmas::totals))]
-    pub fn check(&self)
+    pub fn facts(&self)
         ensures seams { total_seams self.now.layers + total_seams self.now.redo ≤ max_seams }
         ensures count { length self.now.layers + length self.now.redo ≤ max_layers }
         ensures pieces { length self.now.pieces ≡ length self.now.layers + length self.now.redo }
         ensures pieced { AllByRecursion IsPieced self.now.layers }
         ensures redo_pieced { AllByRecursion IsPieced self.now.redo }
-    {
-        let _layers = self.layers;
-    }
+    {}
 
     /// How many layers and redo layers there are, together at most 256.
     pub fn counts(&self) -> (u32, u32)

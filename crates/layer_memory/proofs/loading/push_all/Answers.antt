@@ -10,7 +10,7 @@ loop-i-preserved c =
     let pushed : c.push-pushed.result ≡ true =
     has-room c.args.tape.now c.loop-i.tape c.args.pool.now c.loop-i.pool
     (take c.loop-i.i c.args.frames.now) (length c.args.frames.now) c.push-pushed.result
-    c.push-pushed.ensures.full.0 c.loop-i.invariant c.check.ensures.whole fewer
+    c.push-pushed.ensures.full.0 c.loop-i.invariant c.facts.ensures.whole fewer
     c.requires.room in
     rw (
       take_more c.args.frames.now c.loop-i.i c.index-frames-i.result c.loop-i-test.true,

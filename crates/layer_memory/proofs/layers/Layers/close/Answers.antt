@@ -9,7 +9,7 @@ use Rattle.layer_memory.proofs.layers.Layers.close.Goals as goal
 pub invariant_of-self : goal.invariant_of-self
 invariant_of-self c =
     let low : Below c.cut.new.self.next (addresses c.pieces.result.now) =
-    rw c.pieces.ensures.addresses c.check.ensures.below in
+    rw c.pieces.ensures.addresses c.facts.ensures.below in
     let same_seams : c.seams-seams.result ≡ c.self.inside.fill.seams =
     rw (c.seams-seams.ensures, c.cut.ensures) refl in
     let same_next : c.cut.new.self.next ≡ c.self.inside.fill.next = rw c.cut.ensures refl in (

@@ -23,6 +23,6 @@ returns-clause-alone c =
     rw (sym c.self.view_is)
     (alone-row c.self.inside.tape c.self.inside.closed c.self.inside.fill c.self.inside.top
     c.self.inside.pin (addresses c.self.inside.pinned.items) c.self.inside.seams c.args.place
-    c.address-address.result c.fresh_cells-count.result writing c.self.invariant.0 c.check.ensures
+    c.address-address.result c.fresh_cells-count.result writing c.self.invariant.0 c.facts.ensures
     c.fresh_cells-count.ensures.inside first c.fresh_cells-count.ensures.fresh
     c.fresh_cells-count.ensures.row)

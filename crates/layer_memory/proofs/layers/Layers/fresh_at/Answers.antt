@@ -17,6 +17,6 @@ returns-then-marks-clause-alone c =
     rw (sym c.self.view_is)
     (alone-in c.self.inside.tape c.self.inside.closed c.self.inside.fill c.self.inside.top
     c.self.inside.pin (addresses c.self.inside.pinned.items) c.self.inside.seams c.args.place
-    c.address-address.result writing c.self.invariant.0 c.check.ensures within
+    c.address-address.result writing c.self.invariant.0 c.facts.ensures within
     c.address-address.ensures
     (grind (arith, common_steps, c.marks.ensures, c.if-marks.true, c.address-address.ensures)))

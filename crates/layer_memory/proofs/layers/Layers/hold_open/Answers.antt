@@ -10,5 +10,5 @@ returns-clause-stack c =
     rw (sym c.self.view_is)
     (stack-pinned-open c.self.inside.tape c.self.inside.closed c.self.inside.fill
     c.freeze.new.self c.self.inside.top c.self.inside.pin (addresses c.self.inside.pinned.items)
-    (addresses c.set_to.new.self.items) c.len.result (search rules) c.check.ensures.below
+    (addresses c.set_to.new.self.items) c.len.result (search rules) c.facts.ensures.below
     c.freeze.ensures list c.len.ensures.value)

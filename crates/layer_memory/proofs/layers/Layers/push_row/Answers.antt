@@ -33,5 +33,5 @@ returns-clause-stack c = λ some.
     (stack-span-in k c.self.inside.tape c.push_frames.new.self c.self.inside.closed
     c.self.inside.fill c.write_span-count.new.self c.self.inside.top c.self.inside.pin
     (addresses c.self.inside.pinned.items) c.args.place c.self.inside.seams writing
-    (c.write_span-count.ensures.streak some) c.check-2.ensures.floor c.self.invariant.0 longer
+    (c.write_span-count.ensures.streak some) c.facts-2.ensures.floor c.self.invariant.0 longer
     c.write_span-count.ensures.value)

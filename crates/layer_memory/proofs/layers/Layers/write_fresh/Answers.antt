@@ -20,5 +20,5 @@ returns-clause-writes c =
     rewrites-span c.args.self.now c.rewrite_row.new.self c.args.pool.now c.rewrite_row.new.pool
     c.args.place c.fresh_ahead-address.result.0 (take count c.args.frames.now)
     c.rewrite_row.ensures.stack c.rewrite_row.ensures.tape c.rewrite_row.ensures.writing
-    (omega (arith, n, some)) marked c.check.ensures.low alone c.rewrite_row.ensures.set
-    c.check.ensures.whole
+    (omega (arith, n, some)) marked c.facts.ensures.low alone c.rewrite_row.ensures.set
+    c.facts.ensures.whole

@@ -19,7 +19,7 @@ returns-clause-writes c =
     rw (sym c.self.view_is) (omega (arith, l, rest)) in
     pushes-row c.push_row.result c.args.self.now c.push_row.new.self c.args.pool.now
     c.push_row.new.pool c.args.place most c.old_ahead-old.result c.args.frames.now few within old
-    c.requires.writing c.requires.owns c.check.ensures.whole c.push_row.ensures.none
+    c.requires.writing c.requires.owns c.facts.ensures.whole c.push_row.ensures.none
     c.push_row.ensures.streak c.push_row.ensures.stack c.push_row.ensures.writing
     c.push_row.ensures.pushed c.push_row.ensures.whole c.old_ahead-old.ensures.old
-    c.check.ensures.tape begun chunk c.check.ensures.low
+    c.facts.ensures.tape begun chunk c.facts.ensures.low

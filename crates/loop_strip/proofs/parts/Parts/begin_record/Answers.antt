@@ -16,7 +16,7 @@ returns-then-self-gt0-clause-did c =
     let is : loop_of s' ≡ starts_record (reach_in (strip_of c.args.self.now) c.args.pool.now)
     (loop_of c.args.self.now) = search rules in
     did_as starts_record starts_record c.args.self.now s' c.args.pool.now c.requires.owns refl
-    c.shared.ensures (λ f reach l. starts_record-mapped f reach l) is
+    c.facts.ensures (λ f reach l. starts_record-mapped f reach l) is
 
 pub returns-clause-did : goal.returns-clause-did
 returns-clause-did c =

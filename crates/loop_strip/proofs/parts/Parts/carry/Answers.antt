@@ -10,7 +10,7 @@ returns-in_default c = record {
   ok = c.move_alone.ensures.ok (reach_in (strip_of c.args.self.now) c.args.pool.now);
   did = did_as (λ reach. carry reach c.args.next) (λ reach. carry reach c.args.next) c.args.self.now
       c.move_alone.new.self c.args.pool.now c.requires.owns c.move_alone.ensures.tape
-      c.shared.ensures
+      c.facts.ensures
       (λ f reach l. carry-mapped f reach c.args.next l)
       (c.move_alone.ensures.ok (reach_in (strip_of c.args.self.now) c.args.pool.now));
   whole = c.move_alone.ensures.whole;

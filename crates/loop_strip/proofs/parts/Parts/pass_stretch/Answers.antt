@@ -7,5 +7,5 @@ pub returns-clause-did : goal.returns-clause-did
 returns-clause-did c =
     did_stretched c.args.mode c.args.input.now _ c.args.self.now c.go_stretch.new.self
     c.args.pool.now c.requires.owns c.requires.is c.requires.stretch (search rules)
-    (ap (λ (h : Held). h.tape) c.go_stretch.ensures.layers) c.shared.ensures
+    (ap (λ (h : Held). h.tape) c.go_stretch.ensures.layers) c.facts.ensures
     c.go_stretch.ensures.ok

@@ -12,7 +12,7 @@ returns-then-write-clause-did c =
     (next_is c.args.mode c.args.frame.now c.mix_in-next.result c.args.sound.now c.args.self.now
     c.args.pool.now c.requires.is c.requires.heard c.mix_in-next.ensures)
     (c.how_in-how.ensures ∙ ap (λ m. how_in m c.args.self.now.deck.backward) (sym c.requires.is))
-    c.if-write.ensures c.shared.ensures c.advance_in.ensures.tape c.shared-then-write.ensures
+    c.if-write.ensures c.facts.ensures c.advance_in.ensures.tape c.facts-then-write.ensures
     (c.advance_in.ensures.ok
     ∙ ap (λ m. advanced_in m (loop_of (layers_of c.args.self.now c.write.new.self)))
     (sym c.requires.is))
@@ -22,7 +22,7 @@ returns-else-write-clause-did c =
     did_overran c.args.frame.now c.how_in-how.result c.args.self.now c.overrun.new.self
     c.write.new.self c.args.pool.now c.write.new.pool c.requires.owns
     (c.how_in-how.ensures ∙ ap (λ m. how_in m c.args.self.now.deck.backward) (sym c.requires.is))
-    c.if-write.ensures c.overrun.ensures.tape c.shared-else-write.ensures
+    c.if-write.ensures c.overrun.ensures.tape c.facts-else-write.ensures
     (c.overrun.ensures.ok
     ∙ ap (λ m. overrun_in m (loop_of (layers_of c.args.self.now c.write.new.self)))
     (sym c.requires.is))

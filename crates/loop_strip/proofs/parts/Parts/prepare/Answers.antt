@@ -5,7 +5,7 @@ use Rattle.loop_strip.proofs.parts.Parts.prepare.Goals as goal
 pub returns-clause-did : goal.returns-clause-did
 returns-clause-did c =
     did_ready c.args.frame.now c.args.self.now c.wake.new.self c.make_ready.new.self c.args.pool.now
-    c.wake.new.pool c.wake.ensures.did c.make_ready.ensures.tape c.shared.ensures
+    c.wake.new.pool c.wake.ensures.did c.make_ready.ensures.tape c.facts.ensures
     c.make_ready.ensures.ok
 
 pub returns-clause-whole : goal.returns-clause-whole

@@ -8,6 +8,6 @@ use Rattle.loop_strip.proofs.parts.Parts.set.Goals as goal
 pub returns-clause-did : goal.returns-clause-did
 returns-clause-did c =
     did_set c.args.control c.args.value c.args.self.now
-    (record c.args.self.now { controls = c.set.new.self }) refl c.shared.ensures
+    (record c.args.self.now { controls = c.set.new.self }) refl c.facts.ensures
     (λ reach. ap (λ (k : Controls). record (loop_of c.args.self.now) { controls = k })
     (rw (to_z-of_z w32 c.args.value c.ranges.value) at c.set.ensures))

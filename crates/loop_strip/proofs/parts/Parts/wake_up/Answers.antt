@@ -17,7 +17,7 @@ returns-in-Ok-clause-did c =
     (record (layers_of c.args.self.now c.start_layer.new.self)
     { deck = record c.args.self.now.deck { mode = Recording; pos = 0; backward = false } })
     c.args.pool.now c.start_layer.new.pool c.requires.owns c.in-Ok.ensures.answer
-    c.in-Ok.ensures.after c.shared.ensures
+    c.in-Ok.ensures.after c.facts.ensures
     (ap (λ (u : Stack ℕ).
     record (loop_of (record (layers_of c.args.self.now c.start_layer.new.self)
     { deck = record c.args.self.now.deck { mode = Recording; pos = 0; backward = false } }))

@@ -12,8 +12,8 @@ returns-clause-did c =
     c.mix_row_in.new.next c.args.self.now c.go_row.new.self c.write_span-done.new.self
     c.args.pool.now c.write_span-done.new.pool c.requires.owns c.requires.is c.requires.row le
     c.requires.same_length c.mix_row_in.ensures.length c.requires.heard c.mix_row_in.ensures.value
-    c.write_span-done.ensures.writes c.shared.ensures
-    (ap (λ (h : Held). h.tape) c.go_row.ensures.layers) c.shared-2.ensures c.go_row.ensures.ok
+    c.write_span-done.ensures.writes c.facts.ensures
+    (ap (λ (h : Held). h.tape) c.go_row.ensures.layers) c.facts-2.ensures c.go_row.ensures.ok
 
 pub returns-clause-heard : goal.returns-clause-heard
 returns-clause-heard c =

@@ -1,6 +1,6 @@
 use Rattle.std.proofs.Common.{sym}
 use Rattle.loop_tape.proofs.PoolLemmas.{held_pool}
-use Rattle.loop_tape.proofs.pool.Pool.check.Goals as goal
+use Rattle.loop_tape.proofs.pool.Pool.facts.Goals as goal
 
 pub returns-clause-pool : goal.returns-clause-pool
 returns-clause-pool c =
