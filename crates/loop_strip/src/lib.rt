@@ -6,40 +6,32 @@
 //! - After each call the strip still owns its chunks, reaches as many as before, and every other
 //!   strip of the pool is as it was (`OthersStay`).
 //! - A new loop may begin with a list (`load`), and `settings` is what a save tells of it.
-//! - `give` gives a verb, `boundary_act` lets the waiting one act, `play` has any number of frames pass
-//!   one after another.
+//! - `give` gives a verb, `boundary_act` lets the waiting one act, `play` has any number of frames
+//!   pass one after another.
 //! - `quiet` and `quiet_over` tell for how many frames only the first can take a chunk, open or
 //!   close a layer, be refused or change the mode. So spans of several loops may be played one loop
 //!   after another.
 //! - Only `Strip::new` takes memory. What is refused for want of room, layers or seams is counted,
 //!   as the rules say.
 //!
-//! Begin with `strip`; `acting` has verbs and presses, `play` and `frame` one frame step by step,
-//! `stretches` frames in spans, `quiet` how long a loop is quiet, `laws` what holds of several
+//! Begin with `strip`, and `parts` behind it; `verbs` has what a verb does, `frames` one frame step
+//! by step, `spans` frames in a row and how long a loop is quiet, `laws` what holds of several
 //! calls. The rules are "The loop" to "Frames in a row" in docs/rules.md.
 #![tactic(auto)]
 
-mod acting;
-mod advance;
-mod closing;
 mod controls;
 mod deck;
-mod frame;
+mod frames;
 mod given;
-mod history;
 mod laws;
 mod loading;
-mod moves;
-mod opening;
 mod parts;
-mod quiet;
-mod rows;
-mod play;
 mod saving;
-mod stretches;
+mod spans;
 mod strip;
 #[cfg(test)]
 mod tests;
+mod verbs;
 
 pub use laws::{
     a_recording_is_what_was_played, an_overdub_of_one_turn_is_on_top,

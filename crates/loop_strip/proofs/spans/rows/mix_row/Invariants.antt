@@ -1,6 +1,6 @@
 use Rattle.std.proofs.Common.{◌≡◌, ◌<◌, ℕ, length, get_or}
 use Rattle.sl_base.specs.Sounds.{silence, clamped_sound, summed, scaled_sound}
-use Rattle.loop_strip.proofs.rows.mix_row.Given as goal
+use Rattle.loop_strip.proofs.spans.rows.mix_row.Given as goal
 
 abbrev pub invariant-loop-i : goal.invariant-loop-i
 invariant-loop-i l = record {

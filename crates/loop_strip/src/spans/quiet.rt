@@ -13,9 +13,9 @@ ghost use Rattle.loop_strip.specs.Stretches.{IsAhead};
 ghost use Rattle.loop_strip.specs.Budgets.{IsInChunk, GoesOnIn, IsAmple};
 ghost use Rattle.loop_strip.specs.Quiet.{IsQuietFor, IsQuietOver, AreSoft, most_told};
 
-use crate::frame::is_loud;
+use crate::frames::frame::is_loud;
 use crate::parts::Parts;
-use crate::stretches::places_ahead;
+use crate::spans::stretches::places_ahead;
 use sl_base::{CHUNK_FRAMES, Frame, MAX_LIST_FRAMES, MAX_SEAMS};
 use sl_commands::Mode;
 

@@ -12,9 +12,9 @@ ghost use Rattle.loop_strip.specs.Strips.{seen, Owns, Did, reach_in};
 ghost use Rattle.loop_strip.specs.Rows.{WritesOver, IsRow};
 ghost use Rattle.loop_strip.specs.Parts.{loop_of, strip_of, IsWhole};
 
-use crate::frame::mix;
+use crate::frames::frame::mix;
 use crate::parts::Parts;
-use crate::stretches::places_ahead;
+use crate::spans::stretches::places_ahead;
 use loop_tape::Pool;
 use sl_base::Frame;
 use sl_commands::Mode;

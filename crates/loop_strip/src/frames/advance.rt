@@ -15,7 +15,7 @@ ghost use Rattle.loop_strip.specs.Advances.{MayAdvance};
 ghost use Rattle.loop_strip.specs.Parts.{loop_of, strip_of, IsWhole};
 
 use crate::deck::rest;
-use crate::frame::how_in;
+use crate::frames::frame::how_in;
 use crate::parts::Parts;
 use loop_tape::Pool;
 use sl_base::Frame;

@@ -13,7 +13,7 @@ ghost use Rattle.loop_strip.specs.Stretches.{places_ahead, place_on, place_behin
 ghost use Rattle.loop_strip.specs.Parts.{loop_of, strip_of, IsWhole};
 
 use crate::parts::Parts;
-use crate::quiet::{MOST, soft_frames};
+use crate::spans::quiet::{MOST, soft_frames};
 use loop_tape::Pool;
 use sl_base::Frame;
 use sl_commands::Mode;
