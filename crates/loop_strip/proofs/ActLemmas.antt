@@ -25,8 +25,9 @@ use Rattle.layer_memory.specs.Sharing.{IsShared}
 use Rattle.loop_strip.specs.Strips.{seen, reach_in, Owns, Did}
 use Rattle.loop_strip.specs.declared.parts.Parts.{Parts}
 use Rattle.loop_strip.specs.Parts.{loop_of, strip_of, IsWhole}
-use Rattle.loop_strip.specs.Moving.{IsAllowed, AreAllowed}
-use Rattle.loop_strip.specs.Carrying.{IsCarried}
+use Rattle.loop_strip.specs.Moving.{IsAllowed}
+use Rattle.loop_strip.proofs.Allowed.{AreAllowed}
+use Rattle.loop_strip.proofs.Carrying.{IsCarried}
 use Rattle.loop_strip.proofs.Whole.{own_keeps, kept_as, whole_after}
 use Rattle.loop_strip.proofs.DidLemmas.{seen_face, seen_deck, seen_controls, did_as, did_also}
 use Rattle.loop_strip.proofs.AllowedLemmas.{moves_allowed}

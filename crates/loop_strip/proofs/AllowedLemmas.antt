@@ -17,7 +17,8 @@ use Rattle.looper_laws.proofs.Kept.History.{closed_is_quiet}
 use Rattle.loop_states.specs.declared.act.Move.{Move}
 use Rattle.loop_states.specs.declared.act.Move.TheVariants.{Close, Begin, Round, SetMode, ToStart, Turn}
 use Rattle.loop_states.specs.Deciding.{leads_to_off, close_then, record_moves, layer_moves, length_moves, mode_moves, mute_off_moves, start_moves, reverse_in, reverse_moves, moves_at, moves_in, mode_behind_wait, waiting_moves, moves_from, moves_of}
-use Rattle.loop_strip.specs.Moving.{IsAtRest, MayStart, MayTurn, AreAllowed}
+use Rattle.loop_strip.specs.Moving.{IsAtRest, MayStart, MayTurn}
+use Rattle.loop_strip.proofs.Allowed.{AreAllowed}
 
 -- what a column says of the mode
 abbrev pub Stands : Column → Mode → Type 0

@@ -18,3 +18,8 @@ pub mod BudgetLemmas
 pub mod LawLemmas
 pub mod RecordLemmas
 pub mod TurnLemmas
+pub mod Undoing
+pub mod SoFar
+pub mod Carrying
+pub mod Allowed
+pub mod RowsOver

@@ -26,7 +26,7 @@ use Rattle.loop_strip.specs.Strips.{loop_map, seen, reach_in, Owns, Did}
 use Rattle.loop_strip.specs.declared.parts.Parts.{Parts}
 use Rattle.loop_strip.specs.Parts.{loop_of, strip_of, IsWhole}
 use Rattle.loop_strip.specs.Advances.{MayAdvance}
-use Rattle.loop_strip.specs.SoFar.{PlaysTo}
+use Rattle.loop_strip.proofs.SoFar.{PlaysTo}
 use Rattle.layer_memory.proofs.SeenLemmas.{lengths-mapped}
 use Rattle.loop_strip.proofs.LoopLemmas.{advanced-mapped, overrun-mapped}
 use Rattle.loop_strip.proofs.DidLemmas.{seen_deck, reaches, did_kept, did_as, did_then, did_also, did_nothing}

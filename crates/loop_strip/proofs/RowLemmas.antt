@@ -21,7 +21,8 @@ use Rattle.layer_memory.specs.Sharing.{IsShared}
 use Rattle.loop_strip.specs.Strips.{loop_map, seen, reach_in, Owns, Did}
 use Rattle.loop_strip.specs.declared.parts.Parts.{Parts}
 use Rattle.loop_strip.specs.Parts.{loop_of, strip_of, IsWhole}
-use Rattle.loop_strip.specs.Rows.{WritesOver, IsRow, row_written, row_heard}
+use Rattle.loop_strip.specs.Rows.{WritesOver, IsRow}
+use Rattle.loop_strip.proofs.RowsOver.{row_written, row_heard}
 use Rattle.loop_strip.proofs.DidLemmas.{seen-is, seen_deck, reaches, did_kept, did_as, did_then, did_also}
 use Rattle.loop_strip.proofs.OpeningLemmas.{layers_of}
 use Rattle.loop_strip.proofs.LoopLemmas.{length-mapped}

@@ -14,7 +14,7 @@ use Rattle.looper_laws.proofs.Kept.Closing.{closed_keeps, closed_leads}
 use Rattle.looper_laws.proofs.Kept.History.{closed_is_quiet, undo_keeps, redo_keeps}
 use Rattle.loop_strip.specs.declared.parts.Parts.{Parts}
 use Rattle.loop_strip.specs.Parts.{loop_of, controls_of, IsWhole}
-use Rattle.loop_strip.specs.Undoing.{IsUndone, IsRedone}
+use Rattle.loop_strip.proofs.Undoing.{IsUndone, IsRedone}
 
 -- what a strip's own verbs and frames leave unchanged, where it reaches so many chunks
 abbrev pub own : ℕ → Parts → Unchanged

@@ -1,10 +1,7 @@
 pub mod Strips
 pub mod Parts
 pub mod Moving
-pub mod Undoing
 pub mod Openings
-pub mod SoFar
-pub mod Carrying
 pub mod Advances
 pub mod Quiet
 pub mod Loading

@@ -12,7 +12,6 @@ use Rattle.looper_rules.specs.Stack.{LastWrite}
 use Rattle.looper_rules.specs.Loop.{Loop, is_writing}
 use Rattle.loop_states.specs.declared.act.Move.{Move}
 use Rattle.loop_states.specs.declared.act.Move.TheVariants.{LeaveWait, Close, Begin, Round, SetMode, ToStart, Turn, BreakStreak, Undo, Redo, UndoAll, RedoAll}
-use Rattle.loop_states.specs.Moves.{carry}
 
 -- a list is there, and isn't written
 abbrev pub IsAtRest : Mode → Type 0
@@ -59,11 +58,6 @@ IsAllowed Undo l = ⊤
 IsAllowed Redo l = ⊤
 IsAllowed UndoAll l = ⊤
 IsAllowed RedoAll l = ⊤
-
--- and for each move where those before it have led
-abbrev pub AreAllowed : {A : Type 0} → ℕ → List Move → Loop A → Type 0
-AreAllowed reach [] l = ⊤
-AreAllowed reach (m ∷ ms) l = IsAllowed m l × AreAllowed reach ms (carry reach m l)
 
 -- a move that opens no layer
 abbrev pub IsAlone : Move → Type 0

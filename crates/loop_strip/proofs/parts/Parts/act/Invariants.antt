@@ -1,4 +1,4 @@
-use Rattle.loop_strip.specs.Carrying.{IsCarried}
+use Rattle.loop_strip.proofs.Carrying.{IsCarried}
 use Rattle.loop_strip.proofs.parts.Parts.act.Given as goal
 
 abbrev pub invariant-loop-i : goal.invariant-loop-i

@@ -1,5 +1,5 @@
 use Rattle.std.proofs.Common.{◌≡◌, ◌≤◌, ◌-◌, length}
-use Rattle.loop_strip.specs.SoFar.{PlaysTo}
+use Rattle.loop_strip.proofs.SoFar.{PlaysTo}
 use Rattle.loop_strip.proofs.parts.Parts.play.Given as goal
 
 abbrev pub invariant-loop-done : goal.invariant-loop-done

@@ -1,4 +1,4 @@
-use Rattle.loop_strip.specs.Undoing.{IsRedone}
+use Rattle.loop_strip.proofs.Undoing.{IsRedone}
 use Rattle.loop_strip.proofs.parts.Parts.redo_all.Given as goal
 
 abbrev pub invariant-loop-i : goal.invariant-loop-i

@@ -1,4 +1,4 @@
-use Rattle.loop_strip.specs.Undoing.{IsUndone}
+use Rattle.loop_strip.proofs.Undoing.{IsUndone}
 use Rattle.loop_strip.proofs.parts.Parts.undo_all.Given as goal
 
 abbrev pub invariant-loop-i : goal.invariant-loop-i

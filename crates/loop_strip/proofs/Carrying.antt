@@ -7,7 +7,7 @@ use Rattle.loop_states.specs.Moves.{carry_all}
 use Rattle.loop_strip.specs.declared.parts.Parts.{Parts}
 use Rattle.loop_strip.specs.Strips.{seen, reach_in, Owns, OthersStay}
 use Rattle.loop_strip.specs.Parts.{loop_of, strip_of, IsWhole}
-use Rattle.loop_strip.specs.Moving.{AreAllowed}
+use Rattle.loop_strip.proofs.Allowed.{AreAllowed}
 
 pub record IsCarried (done : ℕ) (moves : List Move) (first now : Parts)
     (p p' : PoolOf) : Type 0 where
