@@ -27,14 +27,14 @@ same_looper :
 same_looper rate g saves chunks chunks' dry dry' ts ts' a b c = cc
 
 pub span_done :
-    (g : Globals) (xs out none sums sums' : List Sound) (dry dry' : ℕ) (t t' : TracksOf) →
+    (g : Globals) (xs out none sums : List Sound) (dry dry' : ℕ) (t t' : TracksOf) →
     none ≡ replicate (length xs) silence →
     DidTracks (swept itself (track_over g.fade_step xs)) t t' →
     sums ≡ added_all none (map given_of (all_over g.fade_step xs (free_among t) t.tracks)) →
-    sums' ≡ added sums (scaled_over g.dry g.fade_step xs dry) →
-    dry' ≡ gain_over g.dry g.fade_step xs dry → out ≡ map clamped_sound sums' →
+    dry' ≡ gain_over g.dry g.fade_step xs dry →
+    out ≡ map clamped_sound (added sums (scaled_over g.dry g.fade_step xs dry)) →
     DidSpan g xs out dry dry' t t'
-span_done g xs out none sums sums' dry dry' t t' empty did all more gain outs =
+span_done g xs out none sums dry dry' t t' empty did all gain outs =
     let played = all_over g.fade_step xs (free_among t) t.tracks
     in let tracks : map track_of played ≡ t'.tracks =
     swept_tracks g.fade_step xs (free_among t) t.tracks ∙ sym did.tracks
@@ -43,7 +43,7 @@ span_done g xs out none sums sums' dry dry' t t' empty did all more gain outs =
     in let out_is : map clamped_sound
     (added (sums_of xs played) (scaled_over g.dry g.fade_step xs dry)) ≡ out =
     ap (λ s. map clamped_sound (added s (scaled_over g.dry g.fade_step xs dry))) sums_are
-    ∙ ap (map clamped_sound) (sym more) ∙ sym outs
+    ∙ sym outs
     in record {
       gave = λ rate saves.
           ap₂ (λ o (l : Looper). let s : Spanned = record { output = o; looper = l } in s) out_is
