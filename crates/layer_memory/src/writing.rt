@@ -121,10 +121,10 @@ impl Layers {
         requires stale { meets_fresh how place self.old.stack ≡ false }
         ensures { Written how place frame self.old self.new pool.old pool.new result }
     {
-        self.facts();
         if !self.may_add(how) {
             return false;
         }
+        self.facts();
         self.push(pool, place, frame, how)
     }
 

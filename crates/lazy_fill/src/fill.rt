@@ -66,7 +66,9 @@ impl Fill {
     /// What always holds.
     pub fn facts(&self)
         ensures { IsFill self.now }
-    {}
+    {
+        let _next = self.next;
+    }
 
     /// Begins anew with a copy of these pieces, none of them fresh. The first write takes the
     /// address `floor`.

@@ -25,6 +25,7 @@ mod frames;
 mod given;
 mod laws;
 mod loading;
+mod modes;
 mod parts;
 mod saving;
 mod spans;

@@ -3,22 +3,13 @@
 ghost use Rattle.std.specs.Prelude.{◌≡◌, ℕ};
 ghost use Rattle.std.specs.declared.option.Option.TheVariants.{None};
 ghost use Rattle.looper_rules.specs.Loop.{with_stack};
-ghost use Rattle.looper_rules.specs.Saves.{pinned, unpinned, saved_cycle, strip_of as settings_of};
+ghost use Rattle.looper_rules.specs.Saves.{pinned, unpinned, strip_of as settings_of};
 ghost use Rattle.loop_strip.specs.Strips.{DidAlone};
 ghost use Rattle.loop_strip.specs.Parts.{loop_of, strip_of, IsWhole};
 
+use crate::modes::saved_cycle;
 use crate::parts::Parts;
-use sl_commands::{Mode, StripSettings};
-
-/// The cycle that a save tells of a loop in this mode.
-fn saved_cycle(mode: Mode, length: u32, cycle: u32) -> u32
-    ensures { result ≡ saved_cycle mode length cycle }
-{
-    match mode {
-        Mode::Recording => length,
-        _ => cycle,
-    }
-}
+use sl_commands::StripSettings;
 
 impl Parts {
     /// The settings that a save tells.

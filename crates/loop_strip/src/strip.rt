@@ -28,7 +28,7 @@ use crate::given::Given;
 use layer_memory::Layers;
 use loop_tape::Pool;
 use sl_base::{Frame, Memory};
-use sl_commands::{Control, Face, Mode, StripSettings};
+use sl_commands::{Control, Face, StripSettings};
 use std::alloc::Global;
 use std::marker::Model;
 

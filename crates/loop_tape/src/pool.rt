@@ -78,7 +78,9 @@ impl Pool {
     pub(crate) fn facts(&self)
         ensures pool { IsPool self.now }
         ensures most { self.now.all ≤ max_chunks }
-    {}
+    {
+        let _all = self.all;
+    }
 
     /// The frame that lies here, in a chunk that a tape has.
     #[tactic(auto, using(crate::proofs::PoolLemmas::reads))]

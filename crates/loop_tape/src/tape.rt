@@ -54,7 +54,9 @@ impl Tape {
         ensures whole { IsWhole self.now }
         ensures within { length self.now.chunks ≤ max_chunks }
         ensures short { self.now.len ≤ 134217728 }
-    {}
+    {
+        let _length = self.len;
+    }
 
     /// How many frames there are.
     pub fn len(&self) -> u32

@@ -67,7 +67,9 @@ impl LayerStack {
         ensures pieces { length self.now.pieces ≡ length self.now.layers + length self.now.redo }
         ensures pieced { AllByRecursion IsPieced self.now.layers }
         ensures redo_pieced { AllByRecursion IsPieced self.now.redo }
-    {}
+    {
+        let _layers = self.layers;
+    }
 
     /// How many layers and redo layers there are, together at most 256.
     pub fn counts(&self) -> (u32, u32)

@@ -15,7 +15,7 @@ ghost use Rattle.loop_strip.specs.Advances.{MayAdvance};
 ghost use Rattle.loop_strip.specs.Parts.{loop_of, strip_of, IsWhole};
 
 use crate::deck::rest;
-use crate::frames::frame::how_in;
+use crate::modes::wrapped_mode;
 use crate::parts::Parts;
 use loop_tape::Pool;
 use sl_base::Frame;
@@ -53,16 +53,6 @@ fn next_place(backward: bool, place: u32) -> u32
         place.saturating_sub(1)
     } else {
         place + 1
-    }
-}
-
-/// The mode behind a wrap.
-fn wrapped_mode(mode: Mode) -> Mode
-    ensures { result ≡ wrapped_mode mode }
-{
-    match mode {
-        Mode::OneShot => Mode::Muted,
-        _ => mode,
     }
 }
 

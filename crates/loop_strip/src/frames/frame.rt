@@ -6,7 +6,7 @@ ghost use Rattle.sl_base.specs.Sounds.{loudness, clamped_sound, summed, scaled_s
 ghost use Rattle.sl_commands.specs.declared.Mode.TheVariants.{WaitStart, Multiplying};
 ghost use Rattle.looper_rules.specs.Layers.{current_length, current_list};
 ghost use Rattle.looper_rules.specs.Loop.{is_writing, length_of, at_place};
-ghost use Rattle.looper_rules.specs.LoopFrame.{awake_in, awake, ready_in, ready, stopped, extends, sound_at, heard_from, heard, new_frame, how_in, wraps, wrapped_place, next_place, wrapped_mode, goes_on, stops_if, lengthens, advanced_in, advanced, overrun_in, after, frame_later};
+ghost use Rattle.looper_rules.specs.LoopFrame.{awake_in, awake, ready_in, ready, stopped, extends, sound_at, heard_from, heard, new_frame, wraps, wrapped_place, next_place, wrapped_mode, goes_on, stops_if, lengthens, advanced_in, advanced, overrun_in, after, frame_later};
 ghost use Rattle.looper_rules.specs.Closing.{at_stop_in, at_stop};
 ghost use Rattle.looper_rules.specs.Writing.{extension_fits};
 ghost use Rattle.looper_laws.proofs.Kept.LoopFrame.{IsPlaced};
@@ -16,32 +16,16 @@ ghost use Rattle.layer_memory.specs.Seen.{seen as seen_layers};
 ghost use Rattle.loop_strip.specs.Strips.{seen, Owns, Did, reach_in};
 ghost use Rattle.loop_strip.specs.Parts.{loop_of, strip_of, IsWhole};
 
-use crate::deck::rest;
 use crate::parts::Parts;
 use loop_tape::Pool;
 use sl_base::{Frame, clamp24, scale};
-use sl_commands::{How, Mode, Started};
+use sl_commands::{Mode, Started};
 
 /// The greater of the absolute sides is at least this.
 pub(crate) fn is_loud(frame: &Frame, threshold: u32) -> bool
     ensures { result ≡ nat_le threshold (loudness frame.now) }
 {
     frame.left.unsigned_abs().max(frame.right.unsigned_abs()) >= threshold
-}
-
-/// How a frame is written in this mode and direction.
-pub(crate) fn how_in(mode: Mode, backward: bool) -> How
-    ensures { result ≡ how_in mode backward }
-{
-    match mode {
-        Mode::Recording => How::Append,
-        Mode::Inserting => How::Insert,
-        _ => if backward {
-            How::Backward
-        } else {
-            How::Forward
-        },
-    }
 }
 
 /// The sum of an old side scaled and another.

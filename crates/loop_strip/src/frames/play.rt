@@ -8,7 +8,7 @@ ghost use Rattle.looper_laws.proofs.Kept.LoopFrame.{IsPlaced};
 ghost use Rattle.loop_strip.specs.Strips.{seen, Owns, Did, reach_in};
 ghost use Rattle.loop_strip.specs.Parts.{loop_of, strip_of, IsWhole};
 
-use crate::frames::frame::how_in;
+use crate::modes::how_in;
 use crate::parts::Parts;
 use loop_tape::Pool;
 use sl_base::Frame;

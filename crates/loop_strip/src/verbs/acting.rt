@@ -15,7 +15,7 @@ use crate::given::{Given, Press};
 use crate::parts::Parts;
 use loop_states::{Move, decide};
 use loop_tape::Pool;
-use sl_commands::{Held, Mode, Verb};
+use sl_commands::{Held, Verb};
 
 /// The verb never waits.
 fn never_waits(verb: Verb) -> bool
