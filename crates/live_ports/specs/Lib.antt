@@ -1,0 +1,4 @@
+pub mod Sources
+pub mod Links
+pub mod Calls
+pub mod MemoryEnds
