@@ -14,7 +14,7 @@ use Rattle.looper_rules.specs.Looper.{Looper}
 use Rattle.looper_rules.specs.Saves.{Save}
 use Rattle.looper_rules.specs.Entries.{is_taken}
 use Rattle.looper_rules.specs.Unanswered.{still_unanswered, answers}
-use Rattle.looper_laws.specs.Apart.{AreApart, AreAllApart}
+use Rattle.run_laws.specs.Apart.{AreApart, AreAllApart}
 use Rattle.engine_steps.specs.Engines.{EngineOf, waiting, first_of, due_target, target_of, left_unanswered, ClearsSent}
 
 -- whatever is done, the same

@@ -17,7 +17,7 @@ use Rattle.looper_rules.specs.Saves.{Save, loop_asker, session_asker, asker_or, 
 use Rattle.looper_rules.specs.Entries.{is_taken, save, save_of, reply, release_reply, outcome_for, ended_asker}
 use Rattle.looper_rules.specs.Unanswered.{still_unanswered, answers, Hold, hold_on, holds_of, HoldsLoop, IsHeld, HoldPins}
 use Rattle.looper_rules.specs.Reached.{IsBeginning}
-use Rattle.looper_laws.specs.Apart.{AreApart, AreAllApart}
+use Rattle.run_laws.specs.Apart.{AreApart, AreAllApart}
 use Rattle.engine_steps.specs.Engines.{EngineOf, Beginning, waiting, first_of, due_target, target_of, left_unanswered, ClearsSent, took, entry_of}
 use Rattle.engine_steps.specs.InStep.{SoFar, IsInStep}
 use Rattle.engine_steps.specs.Answering.{AnswersOldest}

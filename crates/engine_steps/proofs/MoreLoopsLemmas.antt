@@ -36,8 +36,8 @@ use Rattle.looper_rules.specs.Reached.{AreLists, IsBeginning, KeepsLooper}
 use Rattle.looper_laws.proofs.Kept.Selected.{selects}
 use Rattle.looper_laws.proofs.Kept.Starts.{begins}
 use Rattle.looper_laws.proofs.Kept.Runs.{entered_keeps, frame_keeps}
-use Rattle.looper_laws.proofs.Runs.Sizes.{HasLoops, applied-has_loops, framed-has_loops, entered-has_loops}
-use Rattle.looper_laws.proofs.Runs.Cuts.{due-all, later-all}
+use Rattle.run_laws.proofs.Runs.Sizes.{HasLoops, applied-has_loops, framed-has_loops, entered-has_loops}
+use Rattle.run_laws.proofs.Runs.Cuts.{due-all, later-all}
 use Rattle.engine_steps.specs.MoreLoops.{NamesOneLoop, SpeaksOf, with_more}
 use Rattle.engine_steps.proofs.IdleLemmas.{AreIdle, free-wide, at_index-wide, slice_get-wide, map-wide, swept-wide, boundaries-idle, idle_played, all_played-idle, idle_still}
 

@@ -11,14 +11,14 @@ use Rattle.looper_rules.specs.Run.{Ran, begun, run, start}
 use Rattle.looper_rules.specs.Unanswered.{unanswered_begun, unanswered, holds_of, HoldPins}
 use Rattle.looper_rules.specs.SaveBlocks.{blocks_for_all, IsMade, AreSent}
 use Rattle.looper_rules.specs.Reached.{IsBeginning, KeepsLooper}
-use Rattle.looper_laws.specs.Apart.{AreAllApart}
-use Rattle.looper_laws.proofs.Runs.Cuts.{run-run_from}
-use Rattle.looper_laws.proofs.Runs.Sizes.{start-selects}
-use Rattle.looper_laws.proofs.Saves.Owners.{entered-holds, begun-holds, first-holds}
-use Rattle.looper_laws.proofs.Saves.Apart.{entered_apart, begun_apart}
-use Rattle.looper_laws.proofs.Saves.Made.{run_from-made, sent_in_order}
-use Rattle.looper_laws.proofs.Saves.Numbers.{run-numbers, run-count_of_saves}
-use Rattle.looper_laws.proofs.Saves.Blocks.{blocks_for_all_follow}
+use Rattle.run_laws.specs.Apart.{AreAllApart}
+use Rattle.run_laws.proofs.Runs.Cuts.{run-run_from}
+use Rattle.run_laws.proofs.Runs.Sizes.{start-selects}
+use Rattle.run_laws.proofs.Saves.Owners.{entered-holds, begun-holds, first-holds}
+use Rattle.run_laws.proofs.Saves.Apart.{entered_apart, begun_apart}
+use Rattle.run_laws.proofs.Saves.Made.{run_from-made, sent_in_order}
+use Rattle.run_laws.proofs.Saves.Numbers.{run-numbers, run-count_of_saves}
+use Rattle.run_laws.proofs.Saves.Blocks.{blocks_for_all_follow}
 use Rattle.looper_laws.proofs.Kept.Starts.{begins, runs_begun, runs_entered}
 use Rattle.engine_steps.specs.Engines.{EngineOf, Beginning, first_looper, waiting, left}
 use Rattle.engine_steps.specs.InStep.{SoFar, IsInStep}

@@ -11,12 +11,12 @@ use Rattle.looper_rules.specs.Run.{Ran, run}
 use Rattle.looper_rules.specs.Cuts.{run_from}
 use Rattle.looper_rules.specs.Reached.{IsBeginning}
 use Rattle.looper_rules.specs.SaveBlocks.{blocks_of_save, blocks_for_all, ends_in, IsMade}
-use Rattle.looper_laws.proofs.Runs.Cuts.{run-run_from}
-use Rattle.looper_laws.proofs.Runs.Counts.{run_from-few}
-use Rattle.looper_laws.proofs.Runs.Askers.{run_from-saves}
-use Rattle.looper_laws.proofs.Saves.Made.{run_from-made}
-use Rattle.looper_laws.proofs.Saves.BlockCounts.{length-blocks_for_all}
-use Rattle.looper_laws.proofs.Saves.Ends.{take-front, ends-append, all-ends, before_last-ends}
+use Rattle.run_laws.proofs.Runs.Cuts.{run-run_from}
+use Rattle.run_laws.proofs.Runs.Counts.{run_from-few}
+use Rattle.run_laws.proofs.Runs.Askers.{run_from-saves}
+use Rattle.run_laws.proofs.Saves.Made.{run_from-made}
+use Rattle.run_laws.proofs.Saves.BlockCounts.{length-blocks_for_all}
+use Rattle.run_laws.proofs.Saves.Ends.{take-front, ends-append, all-ends, before_last-ends}
 use Rattle.looper_laws.proofs.Kept.Starts.{begins}
 use Rattle.frame_stamp.specs.Journals.{next_seq}
 use Rattle.engine_steps.specs.Engines.{EngineOf, Beginning, first_looper, waiting, left, first_of, next_block, sent_of, sent_from, block_sent}

@@ -22,7 +22,7 @@ use Rattle.looper_rules.specs.Run.{RunSoFar, begun, Ran, run, ended}
 use Rattle.looper_rules.specs.Cuts.{begun_on, ran_on, joined}
 use Rattle.looper_rules.specs.Unanswered.{still_unanswered, unanswered_after, unanswered, answers}
 use Rattle.looper_rules.specs.SaveBlocks.{blocks_of_save, blocks_for_all}
-use Rattle.looper_laws.proofs.Runs.Cuts.{begun-append, run-cut, run-more}
+use Rattle.run_laws.proofs.Runs.Cuts.{begun-append, run-cut, run-more}
 use Rattle.frame_stamp.specs.Journals.{JournalOf, next_seq}
 use Rattle.engine_steps.specs.Engines.{EngineOf, Beginning, first_looper, waiting, left, next_block, first_of, left_unanswered, ClearsSent, took, went_on, put_out, sent_of, sent_from, block_sent}
 use Rattle.engine_steps.specs.InStep.{SoFar, IsInStep, IsPart, with_taken, with_frames, with_block}

@@ -11,7 +11,7 @@ use Rattle.looper_rules.specs.Frame.{framed}
 use Rattle.looper_rules.specs.Run.{RunSoFar, entered, due, later, begun, run}
 use Rattle.looper_rules.specs.Cuts.{with_more_left, begun_on}
 use Rattle.looper_rules.specs.Unanswered.{unanswered_after, unanswered_entered, unanswered_begun, unanswered}
-use Rattle.looper_laws.proofs.Runs.Cuts.{begun-append, begun-more, due-append_none, later-append, due-append_all, later-append_all, left-all}
+use Rattle.run_laws.proofs.Runs.Cuts.{begun-append, begun-more, due-append_none, later-append, due-append_all, later-append_all, left-all}
 
 -- entries one behind the other
 unanswered_entered-append : (frame : ℕ) (first next : List Entry) (l : Looper) (saves : List Save) →

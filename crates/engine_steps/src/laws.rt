@@ -13,7 +13,7 @@ ghost use Rattle.looper_rules.specs.SaveBlocks.{blocks_for_all, ends_in};
 ghost use Rattle.looper_rules.specs.Reached.{IsBeginning, KeepsLooper};
 ghost use Rattle.looper_rules.specs.Entries.{reply, save};
 ghost use Rattle.looper_rules.specs.Unanswered.{holds_of, HoldPins};
-ghost use Rattle.looper_laws.specs.Apart.{AreAllApart};
+ghost use Rattle.run_laws.specs.Apart.{AreAllApart};
 ghost use Rattle.frame_stamp.specs.Journals.{next_seq};
 ghost use Rattle.engine_steps.specs.Engines.{EngineOf, Beginning, first_engine, entry_of, waiting, left, next_block, due_target, ClearsSent, took, went_on, put_out, block_sent};
 ghost use Rattle.engine_steps.specs.InStep.{SoFar, IsInStep, nothing, with_taken, with_frames, with_block};

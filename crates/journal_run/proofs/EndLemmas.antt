@@ -12,7 +12,7 @@ use Rattle.wav_pcm.specs.WavText.{samples, samples_size, padding, wav_header, wa
 use Rattle.looper_rules.specs.Looper.{Looper}
 use Rattle.looper_rules.specs.Saves.{Save}
 use Rattle.looper_rules.specs.Run.{Ran, run}
-use Rattle.looper_laws.proofs.Answers.Runs.{length-run_output}
+use Rattle.run_laws.proofs.Answers.Runs.{length-run_output}
 use Rattle.loop_saver.specs.declared.ending.Ending.TheVariants.{Written}
 use Rattle.loop_saver.specs.SavedFiles.{files_for_all}
 use Rattle.loop_saver.specs.Savers.{SaverOf}

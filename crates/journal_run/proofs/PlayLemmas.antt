@@ -18,7 +18,7 @@ use Rattle.looper_rules.specs.Saves.{Save}
 use Rattle.looper_rules.specs.Run.{Ran, run}
 use Rattle.looper_rules.specs.Cuts.{run_from}
 use Rattle.looper_rules.specs.Entries.{reply, save}
-use Rattle.looper_laws.proofs.Runs.Cuts.{run-cut}
+use Rattle.run_laws.proofs.Runs.Cuts.{run-cut}
 use Rattle.frame_stamp.specs.Journals.{JournalOf, HasRoom, next_seq, room_of}
 use Rattle.loop_saver.specs.declared.ending.Ending.TheVariants.{Written, Failed, Memory}
 use Rattle.loop_saver.specs.SavedFiles.{SavedFile, files_of_save, files_for_all}

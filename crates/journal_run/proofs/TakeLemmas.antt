@@ -7,7 +7,7 @@ use Rattle.looper_rules.specs.Saves.{Save}
 use Rattle.looper_rules.specs.SaveBlocks.{blocks_of_save, blocks_for_all, IsMade}
 use Rattle.looper_rules.specs.Entries.{reply, save}
 use Rattle.looper_rules.specs.Reached.{KeepsLooper}
-use Rattle.looper_laws.proofs.Saves.Made.{save-made}
+use Rattle.run_laws.proofs.Saves.Made.{save-made}
 use Rattle.loop_saver.specs.SavedFiles.{files_of_save, files_for_all}
 use Rattle.loop_saver.specs.Savers.{due_for_all, underway_in}
 use Rattle.loop_saver.proofs.ComeLemmas.{save_blocks_come}

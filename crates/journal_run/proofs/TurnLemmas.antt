@@ -6,7 +6,7 @@ use Rattle.sl_commands.specs.declared.Entry.{Entry}
 use Rattle.sl_commands.specs.Entries.{are_stamped, last_frame, last_frame_from, FramesNeverFall}
 use Rattle.sl_ports.specs.declared.keepers.Keeper.{Ghosts as Keeper}
 use Rattle.looper_rules.specs.Entries.{reply, save}
-use Rattle.looper_laws.proofs.Runs.Cuts.{stamped_never_fall}
+use Rattle.run_laws.proofs.Runs.Cuts.{stamped_never_fall}
 use Rattle.loop_saver.specs.declared.ending.Ending.TheVariants.{Memory}
 use Rattle.loop_saver.specs.SavedFiles.{SavedFile, files_for_all}
 use Rattle.loop_saver.specs.Savers.{SaverOf}

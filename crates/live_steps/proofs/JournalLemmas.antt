@@ -11,7 +11,7 @@ use Rattle.sl_commands.specs.Entries.{entries_of}
 use Rattle.looper_rules.specs.Looper.{Looper}
 use Rattle.looper_rules.specs.Saves.{Save}
 use Rattle.looper_rules.specs.Run.{run}
-use Rattle.looper_laws.specs.Places.{run_before}
+use Rattle.run_laws.specs.Places.{run_before}
 use Rattle.live_steps.specs.Passed.{releases_of}
 use Rattle.live_steps.specs.InStep.{AreBehindTheirSaves}
 

@@ -18,8 +18,8 @@ use Rattle.looper_rules.specs.Entries.{reply, save}
 use Rattle.looper_rules.specs.Run.{Ran, run}
 use Rattle.looper_rules.specs.Reached.{IsBeginning}
 use Rattle.looper_rules.specs.SaveBlocks.{blocks_of_save}
-use Rattle.looper_laws.specs.Places.{run_before}
-use Rattle.looper_laws.specs.Apart.{AreAllApart}
+use Rattle.run_laws.specs.Places.{run_before}
+use Rattle.run_laws.specs.Apart.{AreAllApart}
 use Rattle.frame_stamp.specs.Journals.{JournalOf, next_seq}
 use Rattle.engine_steps.specs.Engines.{EngineOf, Beginning, first_looper, first_engine, entry_of, waiting, next_block, due_target, ClearsSent, took, went_on, put_out, sent_of, sent_from, block_sent}
 use Rattle.engine_steps.specs.InStep.{SoFar, IsInStep, nothing, with_taken, with_frames}

@@ -14,7 +14,7 @@ use Rattle.sl_commands.specs.Entries.{entries_of, commands_of}
 use Rattle.looper_rules.specs.Looper.{Looper}
 use Rattle.looper_rules.specs.Saves.{Save}
 use Rattle.looper_rules.specs.Reached.{IsBeginning}
-use Rattle.looper_laws.specs.Places.{run_before}
+use Rattle.run_laws.specs.Places.{run_before}
 use Rattle.engine_steps.specs.Engines.{EngineOf, Beginning, first_looper, waiting}
 use Rattle.engine_steps.specs.InStep.{SoFar, IsInStep}
 use Rattle.live_steps.specs.Passed.{Passed, all_replies, releases_of}

@@ -11,7 +11,7 @@ use Rattle.sl_commands.specs.declared.Target.TheVariants.{One, All, Selected}
 use Rattle.looper_rules.specs.Looper.{Looper}
 use Rattle.looper_rules.specs.Saves.{Save}
 use Rattle.looper_rules.specs.Unanswered.{holds_of, IsHeld}
-use Rattle.looper_laws.specs.Apart.{AreApart, AreAllApart}
+use Rattle.run_laws.specs.Apart.{AreApart, AreAllApart}
 use Rattle.looper_engine.proofs.HoldingLemmas.{AreHeld, hold_within}
 
 -- the index of a save's loop; a session's counts as that of the first

@@ -8,7 +8,7 @@ use Rattle.looper_rules.specs.Saves.{Save}
 use Rattle.looper_rules.specs.Frame.{framed}
 use Rattle.looper_rules.specs.Run.{begun}
 use Rattle.looper_rules.specs.Unanswered.{Hold, holds_of, HoldPins, IsHeld}
-use Rattle.looper_laws.proofs.Saves.Owners.{framed-holds}
+use Rattle.run_laws.proofs.Saves.Owners.{framed-holds}
 use Rattle.looper_laws.proofs.Kept.Runs.{begun_keeps}
 use Rattle.frame_stamp.specs.Journals.{JournalOf}
 use Rattle.engine_steps.specs.Engines.{EngineOf, waiting, went_on, put_out}

@@ -8,7 +8,7 @@ use Rattle.looper_rules.specs.Looper.{Looper}
 use Rattle.looper_rules.specs.Saves.{Save}
 use Rattle.looper_rules.specs.SaveBlocks.{blocks_of_save, blocks_for_all}
 use Rattle.looper_rules.specs.Unanswered.{holds_of, HoldPins}
-use Rattle.looper_laws.specs.Apart.{AreAllApart}
+use Rattle.run_laws.specs.Apart.{AreAllApart}
 use Rattle.save_parts.specs.Steps.{step_at, block_count, block_of}
 use Rattle.save_parts.proofs.StepLemmas.{length-blocks_of, block_at}
 use Rattle.frame_stamp.specs.Journals.{JournalOf}

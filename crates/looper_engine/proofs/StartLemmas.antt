@@ -9,7 +9,7 @@ use Rattle.looper_rules.specs.Run.{start}
 use Rattle.looper_rules.specs.Unanswered.{holds_of, HoldPins}
 use Rattle.looper_rules.specs.Reached.{AreLists, IsBeginning, KeepsLooper}
 use Rattle.looper_laws.proofs.Kept.Starts.{begins}
-use Rattle.looper_laws.proofs.Saves.Owners.{first-holds}
+use Rattle.run_laws.proofs.Saves.Owners.{first-holds}
 
 pub beginning : (settings : LooperSettings) (chunks : ℕ) (lists : List (List Sound)) →
     IsTrue (are_settings settings) → AreLists settings.strips lists →

@@ -10,9 +10,9 @@ use Rattle.looper_rules.specs.Entries.{save}
 use Rattle.looper_rules.specs.Run.{Ran, run}
 use Rattle.looper_rules.specs.Reached.{IsBeginning}
 use Rattle.looper_rules.specs.SaveBlocks.{blocks_of_save, blocks_for_all}
-use Rattle.looper_laws.specs.Places.{ComesWithEntry}
-use Rattle.looper_laws.proofs.Runs.Comes.{saves_come}
-use Rattle.looper_laws.proofs.Runs.Cuts.{stamped_never_fall}
+use Rattle.run_laws.specs.Places.{ComesWithEntry}
+use Rattle.run_laws.proofs.Runs.Comes.{saves_come}
+use Rattle.run_laws.proofs.Runs.Cuts.{stamped_never_fall}
 use Rattle.engine_steps.specs.Engines.{EngineOf, Beginning, first_looper, left, took, went_on, put_out}
 use Rattle.engine_steps.specs.InStep.{SoFar, IsInStep, IsPart}
 use Rattle.engine_steps.specs.MoreLoops.{SpeaksOf}

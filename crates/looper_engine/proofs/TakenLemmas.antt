@@ -18,15 +18,15 @@ use Rattle.engine_steps.specs.InStep.{SoFar, IsInStep, with_taken}
 use Rattle.engine_steps.specs.Engines.{Beginning}
 use Rattle.engine_steps.proofs.StepLemmas.{took_in_step}
 use Rattle.looper_laws.proofs.Kept.Runs.{entry_keeps}
-use Rattle.looper_laws.proofs.Saves.Owners.{applied-holds}
-use Rattle.looper_laws.proofs.Saves.Apart.{after_apart}
+use Rattle.run_laws.proofs.Saves.Owners.{applied-holds}
+use Rattle.run_laws.proofs.Saves.Apart.{after_apart}
 use Rattle.engine_steps.proofs.StepLemmas.{waiting_took, part_more}
 use Rattle.looper_rules.specs.Looper.{Asker, Track, Looper, index_of}
 use Rattle.looper_rules.specs.Saves.{Save, session_refusal}
 use Rattle.looper_rules.specs.Entries.{is_taken, applied, reply, save, save_of, unless_refused, track_of, refusal_at, loop_save, session_save, saves_loop, saves_session, performed, releases, asker_of}
 use Rattle.looper_rules.specs.Unanswered.{answers, still_unanswered, holds_of, IsHeld, HoldPins}
 use Rattle.looper_rules.specs.Reached.{KeepsLooper}
-use Rattle.looper_laws.specs.Apart.{AreAllApart}
+use Rattle.run_laws.specs.Apart.{AreAllApart}
 use Rattle.frame_stamp.specs.Journals.{JournalOf, next_seq, next_entry}
 use Rattle.engine_steps.specs.Engines.{EngineOf, waiting, left_unanswered, ClearsSent, took, entry_of}
 use Rattle.looper_engine.specs.declared.queue.Pending.{Pending}

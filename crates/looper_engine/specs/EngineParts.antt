@@ -10,7 +10,7 @@ use Rattle.frame_stamp.specs.Journals.{JournalOf, next_seq}
 use Rattle.looper_rules.specs.Looper.{Looper}
 use Rattle.looper_rules.specs.Unanswered.{holds_of, HoldPins}
 use Rattle.looper_rules.specs.Reached.{KeepsLooper}
-use Rattle.looper_laws.specs.Apart.{AreAllApart}
+use Rattle.run_laws.specs.Apart.{AreAllApart}
 use Rattle.engine_steps.specs.Engines.{EngineOf, waiting}
 use Rattle.engine_steps.specs.InStep.{IsPart}
 use Rattle.looper_engine.specs.Queues.{QueueOf}

@@ -22,11 +22,11 @@ use crate::saving::{block_at, block_total, seek_block};
 use crate::setup::{EngineFault, Setup};
 use crate::taking::{asked_by, made_save, released_by};
 use frame_stamp::Journal;
-use whole_looper::{Looper, Refused};
 use sl_base::Frame;
 use sl_commands::{Block, Command, Initial, MIDI, OSC, Reply, Target};
 use std::alloc::Global;
 use std::marker::Model;
+use whole_looper::{Looper, Refused};
 
 /// A looper with its journal and the saves that no release has answered.
 #[derive(Drop)]

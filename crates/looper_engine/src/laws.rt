@@ -9,7 +9,7 @@ ghost use Rattle.looper_rules.specs.Saves.{Save};
 ghost use Rattle.looper_rules.specs.Entries.{save};
 ghost use Rattle.looper_rules.specs.Reached.{IsBeginning};
 ghost use Rattle.looper_rules.specs.SaveBlocks.{blocks_of_save, blocks_for_all};
-ghost use Rattle.looper_laws.specs.Places.{ComesWithEntry};
+ghost use Rattle.run_laws.specs.Places.{ComesWithEntry};
 ghost use Rattle.engine_steps.specs.Engines.{EngineOf, Beginning, first_looper, left, took, went_on, put_out};
 ghost use Rattle.engine_steps.specs.InStep.{SoFar, IsInStep, IsPart};
 ghost use Rattle.engine_steps.specs.MoreLoops.{SpeaksOf};

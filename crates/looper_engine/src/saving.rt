@@ -10,10 +10,10 @@ ghost use Rattle.looper_engine.specs.Holding.{lists_for, pinned_on, CanRead, Rea
 
 use crate::queue::Pending;
 use arrayvec::ArrayVec;
-use whole_looper::Looper;
 use save_parts::{Step, block_count, step_at};
 use sl_base::Frame;
 use sl_commands::{Block, PartFrames, Target};
+use whole_looper::Looper;
 
 /// The lengths of the lists that the pins hold for a save with this target.
 fn lengths_for(looper: &Looper, target: Target) -> ArrayVec<u32, 16>
@@ -144,7 +144,10 @@ pub(crate) fn seek_block(looper: &mut Looper, target: Target, block: u32)
     ensures { looper.new ≡ looper.old }
 {
     match step_for(looper, target, block) {
-        Step::Part { list, place, .. } => looper.seek_saved(target.first_index() + list as u8, place),
+        Step::Part { list, place, .. } => looper.seek_saved(
+            target.first_index() + list as u8,
+            place,
+        ),
         _ => {}
     }
 }

@@ -7,9 +7,9 @@ ghost use Rattle.looper_rules.specs.Looper.{index_of};
 ghost use Rattle.looper_engine.specs.Queues.{asked_by, target_in, released_by};
 
 use crate::queue::Pending;
-use whole_looper::Looper;
 use sl_base::Name;
 use sl_commands::{Command, Settings, Target, is_sender};
+use whole_looper::Looper;
 
 /// A save with these settings, which comes behind those that were made.
 fn pending(looper: &Looper, target: Target, name: &Name, settings: Settings) -> Pending

@@ -18,3 +18,4 @@ pub mod Starts
 pub mod Sessions
 pub mod Constants
 pub mod Selected
+pub mod Askers

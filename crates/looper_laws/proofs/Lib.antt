@@ -1,6 +1,3 @@
-pub mod Runs
-pub mod Answers
-pub mod Saves
 pub mod Kept
 pub mod Others
 pub mod Undo

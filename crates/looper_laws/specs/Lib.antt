@@ -1,6 +1,4 @@
-pub mod Places
-pub mod Questions
+pub mod Selecting
 pub mod OtherLayers
 pub mod Undoing
-pub mod Apart
 pub mod Spans

@@ -18,7 +18,7 @@ ghost use Rattle.looper_rules.specs.Entries.{applied};
 ghost use Rattle.looper_rules.specs.Frame.{at_boundaries, framed_from, framed};
 ghost use Rattle.looper_rules.specs.Run.{entered, begun, run, start};
 ghost use Rattle.looper_rules.specs.Cuts.{run_from};
-ghost use Rattle.looper_laws.specs.Questions.{SelectsALoop};
+ghost use Rattle.looper_laws.specs.Selecting.{SelectsALoop};
 ghost use Rattle.looper_rules.specs.States.{AreClosed, ArePlayable, IsLoop, IsLooper};
 ghost use Rattle.looper_rules.specs.Reached.{Unchanged, IsLayering, KeepsLoops, Keeps, KeepsLooper, SameRateAndChunks, IsBeginning};
 

@@ -22,7 +22,6 @@
 mod asker;
 mod calm;
 mod faces;
-mod track;
 mod load;
 mod read;
 mod saved;
@@ -30,6 +29,7 @@ mod span;
 mod sweep;
 #[cfg(test)]
 mod tests;
+mod track;
 mod tracks;
 
 pub use asker::Asker;

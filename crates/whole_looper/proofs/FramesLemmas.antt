@@ -7,7 +7,7 @@ use Rattle.sl_base.specs.Sounds.{Sound}
 use Rattle.looper_rules.specs.Looper.{Looper}
 use Rattle.looper_rules.specs.Run.{RunSoFar, begun}
 use Rattle.looper_rules.specs.Cuts.{begun_on, continued}
-use Rattle.looper_laws.proofs.Runs.Cuts.{begun-append}
+use Rattle.run_laws.proofs.Runs.Cuts.{begun-append}
 use Rattle.whole_looper.specs.Spans.{HasBegun}
 
 -- some frames behind others

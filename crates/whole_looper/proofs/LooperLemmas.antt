@@ -27,7 +27,7 @@ use Rattle.looper_rules.specs.Entries.{with_save_of, saves_loop, saves_session, 
 use Rattle.looper_tracks.specs.Tracks.{TracksOf, free_among, IsFreeAt, IsFreeOn, DidTracks}
 use Rattle.whole_looper.specs.Loopers.{looper_of, IsReached}
 use Rattle.looper_laws.proofs.Kept.Settings.{selected_range}
-use Rattle.looper_laws.proofs.Saves.Made.{settings_valid}
+use Rattle.run_laws.proofs.Saves.Made.{settings_valid}
 use Rattle.looper_tracks.proofs.SweepLemmas.{swept_map, at_index_any}
 
 -- the looper with other tracks

@@ -19,8 +19,8 @@
 
 mod applied;
 mod apply;
-mod looper;
 mod load;
+mod looper;
 mod mix;
 mod refused;
 mod save;

@@ -19,7 +19,7 @@ use Rattle.looper_rules.specs.Frame.{at_boundary, at_boundaries, framed_from}
 use Rattle.looper_rules.specs.Run.{first_tracks}
 use Rattle.looper_rules.specs.Pins.{SessionIsWhole}
 use Rattle.looper_rules.specs.States.{IsTrack}
-use Rattle.looper_laws.proofs.Answers.Askers.{askers_of, changed_at, at_target-same, at_index-pinned, map-pinned, without, without_loop, without_session, at_index-released, map-released, running, running-tracks, played-same, swept-same}
+use Rattle.looper_laws.proofs.Kept.Askers.{askers_of, changed_at, at_target-same, at_index-pinned, map-pinned, without, without_loop, without_session, at_index-released, map-released, running, running-tracks, played-same, swept-same}
 
 -- all these tracks have this asker
 abbrev AreAll : Asker → List (Option Asker) → Type 0

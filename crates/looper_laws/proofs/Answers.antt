@@ -1,7 +1,0 @@
--- What the replies of a run answer.
-pub mod Askers
-pub mod Pending
-pub mod Entries
-pub mod Runs
-pub mod Gets
-pub mod Once

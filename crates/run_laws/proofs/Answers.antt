@@ -1,0 +1,6 @@
+-- What the replies of a run answer.
+pub mod Pending
+pub mod Entries
+pub mod Runs
+pub mod Gets
+pub mod Once
