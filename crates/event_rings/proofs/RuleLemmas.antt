@@ -10,6 +10,12 @@ use Rattle.event_rings.specs.Known.{known, EachFollows, IsPutter, IsTaker}
 use Rattle.event_rings.specs.Rule.{IsRing, Whole, SameNumbers, Puts, Fits, Kept, Takes, Drains}
 
 module _ {T : Type 0} where
+  -- where a ring holds its capacity, at least as many were sent
+  pub many_sent : (sent taken held : List T) (capacity : ℕ) → sent ≡ taken ++ held →
+      length held ≡ capacity → capacity ≤ length sent
+  many_sent sent taken held capacity order whole =
+      let all = ap length order ∙ length-append taken held in omega (arith, all, whole)
+
   -- an element that is only there with one more at the end is that one
   at_end : (l : List (Known T)) (a b : Known T) (j : ℕ) → get_elem? l j ≢ some b →
       get_elem? (l ++ a ∷ []) j ≡ some b → j ≡ length l

@@ -1,9 +1,9 @@
 -- What contracts see of the ends of a ring. Another kind of ring, which waits for nobody, may share
 -- these: `is_still` says which kind it is.
--- A full ring hands the item back: what was sent stays, the count of fulls rises by one, and at a
--- moment of the call the ring held as many of the items sent as its capacity. An empty one gives
--- nothing: what was taken stays, and the count of nones rises by one. Two ends of one ring that
--- meet know both lists: sent is taken followed by what is left.
+-- A full ring hands the item back: what was sent stays, the count of fulls rises by one, and at
+-- least as many items were sent as the ring holds. A take that gives nothing leaves what was taken,
+-- and the count of nones rises by one. Two ends of one ring that meet know both lists: sent is
+-- taken followed by what is left.
 -- "Rings" in docs/rules.md.
 use Rattle.std.specs.Prelude.{◌≡◌, ◌≤◌, ◌-◌, ◌^◌, ℕ, Bool, List, [], ◌∷◌, ◌++◌, length}
 use Rattle.atomic_table.specs.Seated.{TableId}
@@ -95,15 +95,12 @@ pub record SameBothRing {T : Type 0} (old new : BothEnds T) : Type 0 where
   pub fulls : new.fulls ≡ old.fulls
   pub nones : new.nones ≡ old.nones
 
--- a put found the ring full: it held its capacity of the items sent, those behind some that were
--- taken
+-- a put that the ring handed back as full: nothing was sent, it is counted, and as many items were
+-- sent before as the ring holds
 pub record IsFull {T : Type 0} (old new : PutEnd T) : Type 0 where
   pub sent : new.sent ≡ old.sent
   pub counted : new.fulls ≡ raised old.fulls
-  pub taken : List T
-  pub held : List T
-  pub order : old.sent ≡ taken ++ held
-  pub whole : length held ≡ old.capacity
+  pub many : old.capacity ≤ length old.sent
 
 -- a take gave the next item, which may follow those before it
 pub record TakesNext {T : Type 0} (follows : List T → T → ℕ → Type 0) (item : T)
@@ -113,12 +110,10 @@ pub record TakesNext {T : Type 0} (follows : List T → T → ℕ → Type 0) (i
   pub few : length new.taken ≤ old.limit
   pub nones : new.nones ≡ old.nones
 
--- a take found the ring empty: all that was sent was what is taken
+-- a take that gave nothing: nothing was taken, and it is counted
 pub record IsEmpty {T : Type 0} (old new : TakeEnd T) : Type 0 where
   pub taken : new.taken ≡ old.taken
   pub counted : new.nones ≡ raised old.nones
-  pub sent : List T
-  pub order : sent ≡ old.taken
 
 -- two ends met: both lists and counts are theirs
 pub record Meets {T : Type 0} (putter : PutEnd T) (taker : TakeEnd T)

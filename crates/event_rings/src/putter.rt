@@ -55,6 +55,7 @@ pub struct Full<T: Item> {
 impl<T: Item> Putter<T> {
     /// Puts an item behind those that were sent, or hands it back where the ring is full. No memory
     /// is taken.
+    #[tactic(auto, using(crate::proofs::RuleLemmas::many_sent))]
     pub fn put<R: Wait>(&mut self, wait: &R, item: T) -> Result<(), Full<T>>
         requires room { length self.old.sent < self.old.limit }
         requires may { T.may_follow self.old.sent item self.old.bound }
