@@ -1,4 +1,5 @@
-//! What an engine takes for a frame of a loop, and what the same work takes by hand over flat lists.
+//! What an engine takes for a frame of a loop, and what the same work takes by hand over flat
+//! lists.
 //!
 //! ```text
 //! benches engine playing LOOPS PERIOD TIMES
@@ -10,8 +11,9 @@
 //! benches engine hand LOOPS PERIOD TIMES
 //! ```
 //!
-//! Each loop has 480,000 frames, which are 10 seconds at 48,000 a second, and they are played in periods of PERIOD frames. Each
-//! line names what was timed, with the least of TIMES in thousandths of a nanosecond for a frame of a loop.
+//! Each loop has 480,000 frames, which are 10 seconds at 48,000 a second, and they are played in
+//! periods of PERIOD frames. Each line names what was timed, with the least of TIMES in thousandths
+//! of a nanosecond for a frame of a loop.
 
 mod hand;
 mod scenario;

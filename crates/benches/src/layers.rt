@@ -6,9 +6,10 @@
 //! benches layers vector FRAMES 0 TIMES
 //! ```
 //!
-//! `layers` has its pool filled before, as it is when live audio begins. It records FRAMES frames, and in a second layer writes STREAKS single frames over their second half, apart from one another.
-//! Each line names what was timed, with the least of TIMES in thousandths of a nanosecond: of a call, and of a frame where
-//! frames are written or read one by one.
+//! `layers` has its pool filled before, as it is when live audio begins. It records FRAMES frames,
+//! and in a second layer writes STREAKS single frames over their second half, apart from one
+//! another. Each line names what was timed, with the least of TIMES in thousandths of a nanosecond:
+//! of a call, and of a frame where frames are written or read one by one.
 
 mod measures;
 mod scenario;

@@ -1,5 +1,5 @@
-//! Times a part of the looper beside the same work by hand, or does it again and again for a script to time. Without words it is
-//! silent, and so with others than these.
+//! Times a part of the looper beside the same work by hand, or does it again and again for a script
+//! to time. Without words it is silent, and so with others than these.
 //!
 //! ```text
 //! benches engine KIND LOOPS PERIOD TIMES     a frame of a loop in the engine, for bench/engine.sh
@@ -9,8 +9,9 @@
 //! benches messages KIND COUNT                messages from outside, for bench/messages.sh
 //! ```
 //!
-//! What is timed inside is told in a line each, with the least of TIMES in thousandths of a nanosecond. The status is 1 where numbers
-//! or messages didn't come as they have to, and 8 for want of memory.
+//! What is timed inside is told in a line each, with the least of TIMES in thousandths of a
+//! nanosecond. The status is 1 where numbers or messages didn't come as they have to, and 8 for
+//! want of memory.
 #![tactic(auto)]
 
 mod clock;

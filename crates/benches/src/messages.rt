@@ -1,11 +1,12 @@
-//! The same message from outside, read again and again, for bench/messages.sh to time. It is silent.
+//! The same message from outside, read again and again, for bench/messages.sh to time. It is
+//! silent.
 //!
 //! ```text
 //! benches messages hit|flood|midi|bound COUNT
 //! ```
 //!
-//! `hit` reads a packet of one hit and what it asks for, `flood` one of 292 hits, `midi` feeds a stream of
-//! 1000 notes, three bytes each, and `bound` looks up notes of the last of 1024 bindings.
+//! `hit` reads a packet of one hit and what it asks for, `flood` one of 292 hits, `midi` feeds a
+//! stream of 1000 notes, three bytes each, and `bound` looks up notes of the last of 1024 bindings.
 //! Other words do nothing. The status is 1 where a message was not read as it has to be.
 
 use midi_bindings::{Bindings, read_bindings};

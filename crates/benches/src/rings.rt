@@ -1,10 +1,12 @@
-//! Numbers through a ring, or through the bare queue without ends and rule, for bench/rings.sh to time. It is silent.
+//! Numbers through a ring, or through the bare queue without ends and rule, for bench/rings.sh to
+//! time. It is silent.
 //!
 //! ```text
 //! benches rings ring|bare one|two COUNT CAPACITY
 //! ```
 //!
-//! `one` puts and takes on one thread, `two` puts on one thread and takes on another. Other words do nothing.
+//! `one` puts and takes on one thread, `two` puts on one thread and takes on another. Other words
+//! do nothing.
 
 mod bare;
 mod ringed;

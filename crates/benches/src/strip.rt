@@ -5,9 +5,10 @@
 //! benches strip plain 0 SPAN TIMES
 //! ```
 //!
-//! The list has 491,520 frames, a little over ten seconds. `loop` has its pool filled before, as it is when live audio begins, and
-//! writes STREAKS streaks over the list, as long as they fit, so that it has 2 seams and 2 more for each. All frames go in spans of
-//! SPAN. Each line names what was timed, with the least of TIMES in thousandths of a nanosecond a frame.
+//! The list has 491,520 frames, a little over ten seconds. `loop` has its pool filled before, as it
+//! is when live audio begins, and writes STREAKS streaks over the list, as long as they fit, so
+//! that it has 2 seams and 2 more for each. All frames go in spans of SPAN. Each line names what
+//! was timed, with the least of TIMES in thousandths of a nanosecond a frame.
 
 mod measures;
 mod plain;

@@ -62,15 +62,19 @@ stack-extended tape closed d d' (Some t) pin pinned ps more w lt o m ex em ed =
     (list-below d.floor closed.layers le o) (rw (ed, ex) refl) (rw (ed, em) refl) (rw ed refl)
     (rw ed refl)
 
-pub open-floor : (tape : ℕ) (closed : LayersOf) (d : FillOf) (top : Option Top) (pin : Option ℕ) (pinned xs : List ℕ) → IsTrue (is_some top) → Ordered closed.layers → MayBeOpen tape closed d top pin pinned → xs ≡ current_list closed.layers → Below d.floor xs
+pub open-floor : (tape : ℕ) (closed : LayersOf) (d : FillOf) (top : Option Top) (pin : Option ℕ)
+    (pinned xs : List ℕ) → IsTrue (is_some top) → Ordered closed.layers →
+        MayBeOpen tape closed d top pin pinned → xs ≡ current_list closed.layers → Below d.floor xs
 open-floor tape closed d None pin pinned xs w o m e = grind (arith, w)
-open-floor tape closed d (Some t) pin pinned xs w o m e = rw e (list-below d.floor closed.layers (let x = m.end in let y = m.floor in omega (arith, x, y)) o)
+open-floor tape closed d (Some t) pin pinned xs w o m e = rw e
+    (list-below d.floor closed.layers (let x = m.end in let y = m.floor in omega (arith, x, y)) o)
 
 pub ruleset extends = (based, stack-extended, open-floor, current-total)
 
 pub ruleset ends = (extended-mapped, extension-mapped, extended_if-mapped)
 
-pub open-total : (top : Option Top) (d : FillOf) (closed : List (Layer ℕ)) → IsTrue (is_some top) → total_seams (stacked top d closed) ≡ d.seams + total_seams closed
+pub open-total : (top : Option Top) (d : FillOf) (closed : List (Layer ℕ)) → IsTrue (is_some top) →
+    total_seams (stacked top d closed) ≡ d.seams + total_seams closed
 open-total None d closed w = grind (arith, w)
 open-total (Some t) d closed w = sum_by-cons seams_of (open_layer t d closed) closed
 

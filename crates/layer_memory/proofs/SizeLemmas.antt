@@ -15,7 +15,8 @@ use Rattle.layer_memory.specs.Measures.{AreSizes}
 use Rattle.layer_memory.proofs.SeenLemmas.{lengths-mapped, cycle-mapped, bases-mapped, layers-mapped, total-mapped}
 use Rattle.layer_memory.proofs.ReadLemmas.{length-list}
 
-pub open-length : (t : Top) (d : FillOf) (closed : List (Layer ℕ)) → current_length (stacked (Some t) d closed) ≡ length d.cells
+pub open-length : (t : Top) (d : FillOf) (closed : List (Layer ℕ)) →
+    current_length (stacked (Some t) d closed) ≡ length d.cells
 open-length t d closed = length-map d.cells (marked_cell d.floor)
 
 pub closed-length : (closed : List (Layer ℕ)) → current_length closed ≡ length (current_list closed)
@@ -27,7 +28,9 @@ closed-base [] o = refl
 closed-base (l ∷ ls) o = rw o.1.0.no_base refl
 
 -- the base of an open layer
-pub open-base : (t : Top) (over : Bool) (d : FillOf) (closed : List (Layer ℕ)) → t.over ≡ over → current_base_length (stacked (Some t) d closed) ≡ (if over then length (current_list closed) else 0)
+pub open-base : (t : Top) (over : Bool) (d : FillOf) (closed : List (Layer ℕ)) → t.over ≡ over →
+    current_base_length (stacked (Some t) d closed)
+        ≡ (if over then length (current_list closed) else 0)
 open-base t true d closed e = rw e refl
 open-base t false d closed e = rw e refl
 

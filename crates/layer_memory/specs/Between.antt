@@ -1,6 +1,6 @@
 -- What may happen to a stack between two calls: openings, writes, extensions, closings, removals,
--- undo and redo, and the end of a streak. Between an opening and its closing a list may also be pinned
--- and released.
+-- undo and redo, and the end of a streak. Between an opening and its closing a list may also be
+-- pinned and released.
 -- "Writing", "History: undo and redo" and "The stack" in docs/rules.md.
 use Rattle.std.specs.Prelude.{ℕ, Bool, Option}
 use Rattle.sl_base.specs.Sounds.{Sound}

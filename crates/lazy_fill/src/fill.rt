@@ -286,8 +286,8 @@ impl Fill {
     }
 
     /// Writes the next addresses in a row, each over the one at its place, as many as one piece
-    /// takes in a streak that goes on, but not its last. It says how many, at most `count`; none where
-    /// no streak goes on.
+    /// takes in a streak that goes on, but not its last. It says how many, at most `count`; none
+    /// where no streak goes on.
     #[tactic(auto, using(crate::proofs::SpanLemmas::spans))]
     pub fn write_span(&mut self, place: u32, count: u32) -> u32
         requires within { place + count ≤ length self.old.cells }

@@ -295,7 +295,8 @@ quiet_streak _ streak pos backward quiet h = h
 
 pub still_streak : (mode : Mode) (s : Parts) → IsWhole s → s.deck.mode ≡ mode →
     is_writing mode ≡ false → s.layers.stack.streak ≡ None
-still_streak mode s w is quiet = quiet_streak mode s.layers.stack.streak s.deck.pos s.deck.backward quiet
+still_streak mode s w is quiet =
+    quiet_streak mode s.layers.stack.streak s.deck.pos s.deck.backward quiet
     (subst (λ m. IsStreak m s.layers.stack.streak s.deck.pos s.deck.backward) is w.loop.streak)
 
 -- what may be advanced outside the writing modes

@@ -130,7 +130,8 @@ pub turned_keeps : {A : Type 0} {a : Unchanged} (l : Loop A) → MayTurn l.deck.
 turned_keeps l may h =
     let now = turn_in l.deck.mode l.stack.layers l.stack.redo l.deck.pos l.deck.backward
     (not l.deck.backward) l.stack.streak may h.loop.in_mode h.loop.streak
-    in with_deck (record l.deck { backward = not l.deck.backward }) l.stack.streak h now.0 now.1 refl
+    in with_deck
+        (record l.deck { backward = not l.deck.backward }) l.stack.streak h now.0 now.1 refl
 
 pub whole_turned : (s s' : Parts) → IsWhole s → MayTurn s.deck.mode s.layers.stack.streak →
     loop_of s' ≡ turned (loop_of s) → s'.layers ≡ s.layers → s'.pinned ≡ s.pinned → IsWhole s'
@@ -143,7 +144,8 @@ broken_keeps l h =
     with_deck l.deck None h h.loop.in_mode (no_streak l.deck.mode l.deck.pos l.deck.backward) refl
 
 pub whole_broken : (s s' : Parts) → IsWhole s → is_writing s.deck.mode ≡ true →
-    loop_of s' ≡ with_stack (streak_broken (loop_of s).stack) (loop_of s) → s'.layers.writing ≡ true →
+    loop_of s' ≡ with_stack (streak_broken (loop_of s).stack) (loop_of s) →
+        s'.layers.writing ≡ true →
     s'.pinned ≡ s.pinned → IsWhole s'
 whole_broken s s' w writing is held pinned =
     keeps_mode s s' (with_stack (streak_broken (loop_of s).stack) (loop_of s)) w is

@@ -100,7 +100,8 @@ recorded_more ys x start reach controls l h room short =
       mode = refl;
       list = list_more l.deck.pos _ x l.stack.layers h.some ∙ ap (λ zs. zs ++ x ∷ []) h.list;
       tape = omega (arith, tape, more);
-      some = let same = count_more l.deck.pos (cond (is_some l.stack.streak) 0 2) x l.stack.layers in
+      some = let same =
+          count_more l.deck.pos (cond (is_some l.stack.streak) 0 2) x l.stack.layers in
           let some = h.some in omega (arith, same, some);
       seams = refl;
       same = h.same;

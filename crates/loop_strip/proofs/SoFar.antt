@@ -1,5 +1,5 @@
--- Where frames that are played stand: the frames that are left lead to the loop and to the sounds that
--- all of them give.
+-- Where frames that are played stand: the frames that are left lead to the loop and to the sounds
+-- that all of them give.
 -- "Frames in a row" in docs/rules.md.
 use Rattle.std.specs.Prelude.{◌≡◌, ℕ, List, take}
 use Rattle.sl_base.specs.Sounds.{Sound}

@@ -84,7 +84,8 @@ impl Parts {
     pub(crate) fn value(&self, control: Control, free: u32) -> i32
         requires whole { IsWhole self.now }
         ensures { result ≡ reply_value
-            (pos (loop_value control free (loop_of self.now).controls (face_of (loop_of self.now)))) }
+            (pos (loop_value control free (loop_of self.now).controls
+                (face_of (loop_of self.now)))) }
     {
         let face = self.face();
         self.controls.value(control, free, &face)

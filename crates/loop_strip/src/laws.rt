@@ -83,8 +83,8 @@ pub fn an_overdub_of_one_turn_is_on_top(
     strip.give(pool, Given::hit(Verb::Overdub));
 }
 
-/// `overdub` is given at once to a loop at rest that grants it, any frames are played, and `undo` is
-/// given, which leaves a strip and a pool each: the list is the one from before, and so are all
+/// `overdub` is given at once to a loop at rest that grants it, any frames are played, and `undo`
+/// is given, which leaves a strip and a pool each: the list is the one from before, and so are all
 /// layers, whether the overdub was still going on or ended for want of room.
 pub fn undo_takes_an_overdub_back()
     ensures layers { (xs : List Sound) (old pressed played undone : StripOf)
@@ -97,8 +97,8 @@ pub fn undo_takes_an_overdub_back()
         current_list (seen undone p3).stack.layers ≡ current_list (seen old p).stack.layers }
 {}
 
-/// `undo` is given where a layer is left once an open one is closed, and `redo` behind it: the layer
-/// is there again, frame for frame, and all the rest of the stack.
+/// `undo` is given where a layer is left once an open one is closed, and `redo` behind it: the
+/// layer is there again, frame for frame, and all the rest of the stack.
 pub fn redo_gives_an_undone_layer_back()
     ensures stack { (old undone redone : StripOf) (p p1 p2 : PoolOf) →
         Did (given Undo) old undone p p1 → Did (given Redo) undone redone p1 p2 →

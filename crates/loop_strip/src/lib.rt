@@ -34,11 +34,11 @@ mod strip;
 mod tests;
 mod verbs;
 
+pub use given::{Given, Press};
 pub use laws::{
     a_recording_is_what_was_played, an_overdub_of_one_turn_is_on_top,
     redo_gives_an_undone_layer_back, undo_takes_an_overdub_back,
 };
 pub use loop_states::{Face, Mode};
 pub use loop_tape::Pool;
-pub use given::{Given, Press};
 pub use strip::Strip;

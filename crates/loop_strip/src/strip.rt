@@ -23,8 +23,8 @@ ghost use Rattle.loop_strip.specs.Strips.{StripOf, seen, free_in, reach_in, Owns
 ghost use Rattle.loop_strip.specs.Loading.{IsNew, loads};
 
 use crate::deck::{Controls, Deck};
-use crate::parts::Parts;
 use crate::given::Given;
+use crate::parts::Parts;
 use layer_memory::Layers;
 use loop_tape::Pool;
 use sl_base::{Frame, Memory};

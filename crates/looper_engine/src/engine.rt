@@ -59,7 +59,8 @@ impl Engine {
         ensures value { IfOk result (λ e. e ≡ first_engine (beginning_of setup.now initial.now)) }
         ensures begins { IfOk result
             (λ e. IsBeginning setup.now.settings setup.now.chunks initial.now) }
-        ensures in_step { IfOk result (λ e. IsInStep (beginning_of setup.now initial.now) nothing e) }
+        ensures in_step { IfOk result
+            (λ e. IsInStep (beginning_of setup.now initial.now) nothing e) }
         ensures limit { IsErrOf result EngineFault.Limit ↔
             (setup.now.chunks < used (map length initial.now)) }
     {

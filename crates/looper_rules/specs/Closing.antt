@@ -44,7 +44,8 @@ finished_layer cut tape l = closed_layer (cut_cells cut l.cells) tape l
 
 -- the stack with its open layer closed
 abbrev pub finished : {A : Type 0} → Option ℕ → Stack A → Stack A
-finished cut s = record s { layers = with_current (finished_layer cut s.tape) s.layers; streak = None }
+finished cut s =
+    record s { layers = with_current (finished_layer cut s.tape) s.layers; streak = None }
 
 -- the stack with its open layer removed
 abbrev pub dropped : {A : Type 0} → Stack A → Stack A

@@ -4,9 +4,9 @@
 -- - the total seams together with the new layer's are more than 65534,
 -- - a tape of length t has no room.
 -- A refusal changes nothing. Otherwise the redo layers are dropped, the tape length becomes t, and
--- no streak goes on. A layer that begins empty has no cells, no base, 0 seams and cycle 0. Any other
--- has the current list, not fresh, that list as its base, and the seams and the cycle of the layer
--- below.
+-- no streak goes on. A layer that begins empty has no cells, no base, 0 seams and cycle 0. Any
+-- other has the current list, not fresh, that list as its base, and the seams and the cycle of the
+-- layer below.
 -- "Opening" in docs/rules.md.
 use Rattle.std.specs.Prelude.{ℕ, ◌+◌, ◌-◌, max, Bool, true, false, List, [], ◌∷◌, None, length, nat_lt, nat_le, if◌then◌else◌}
 use Rattle.sl_commands.specs.declared.Started.{Started}

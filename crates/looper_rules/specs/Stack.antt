@@ -1,9 +1,9 @@
 -- A stack is all that a loop holds of frames: its layers, newest first, the redo layers, the next
 -- one first, the tape length (how many frames it has written), a pin where a save holds its list,
--- and whether a streak goes on. A streak is a stretch of writes in one manner, each at the place behind
--- the one before it (before it, where backward). While it goes on, the place and the manner of the
--- last write are kept. A pin keeps the list that is being saved and the tape length at its entry:
--- what stands below it on the tape is not written again.
+-- and whether a streak goes on. A streak is a stretch of writes in one manner, each at the place
+-- behind the one before it (before it, where backward). While it goes on, the place and the manner
+-- of the last write are kept. A pin keeps the list that is being saved and the tape length at its
+-- entry: what stands below it on the tape is not written again.
 -- "The stack" in docs/rules.md.
 use Rattle.std.specs.Prelude.{ℕ, List, [], Option, Some, None}
 use Rattle.sl_commands.specs.declared.How.{How}

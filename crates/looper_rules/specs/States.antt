@@ -7,8 +7,8 @@
 -- WaitStart without a layer.
 -- In Recording pos is the length and the cycle is 0. The base of an open layer isn't longer than
 -- its list, and in another writing mode than Recording it isn't empty. In Recording, Multiplying
--- and Inserting the direction is forward. A streak goes on in a writing mode alone, and then the next
--- write is the one that continues it.
+-- and Inserting the direction is forward. A streak goes on in a writing mode alone, and then the
+-- next write is the one that continues it.
 -- Layers and redo layers together are at most 256, with at most 65536 seams; each end and the pin
 -- are at most the tape length. No layer ends before the one below it, and the redo layers, in the
 -- order in which they come back, go on so from the current one: so an opening can take the tape

@@ -19,8 +19,8 @@
 -- Where closing has made the mode Off, nothing more is done. The start is 0 forward and the length
 -- less 1 backward. A multiply or insert ends by closing where round is 0, where it is rounding
 -- already, or at its stop; else it rounds. A reverse in Recording, Multiplying and Inserting closes
--- and then turns; in another writing mode it turns, and no streak goes on. In WaitStart `record` only
--- leaves it. Every other verb leaves it first, and then acts from the new mode.
+-- and then turns; in another writing mode it turns, and no streak goes on. In WaitStart `record`
+-- only leaves it. Every other verb leaves it first, and then acts from the new mode.
 -- "Verbs" in docs/rules.md.
 use Rattle.std.specs.Prelude.{ℕ, ◌-◌, Bool, true, false, ◌||◌, ◌==◌, if◌then◌else◌}
 use Rattle.sl_commands.specs.declared.Verb.{Verb}

@@ -2,9 +2,9 @@
 -- list.
 -- Over a fresh cell it keeps the tape length and ends the streak, and it always fits.
 -- Every other write makes a new cell: it adds one to the tape length, leaves the cell fresh, adds 2
--- seams where no streak goes on, and then a streak goes on. It fits where the loop has room, and a streak
--- goes on or the total seams are at most 65534, and, before a place or at the end, the list has
--- fewer than 16777216 frames.
+-- seams where no streak goes on, and then a streak goes on. It fits where the loop has room, and a
+-- streak goes on or the total seams are at most 65534, and, before a place or at the end, the list
+-- has fewer than 16777216 frames.
 -- Extending appends the base, not fresh, and adds its seams. It fits where the list then has at
 -- most 16777216 frames and the total seams are at most 65536.
 -- "Writing" in docs/rules.md.

@@ -60,8 +60,8 @@ pub fn undo_takes_back_half_an_overdub()
         (loop_in Playing 0 (stack (layer half 4 6 4 ∷ layer phrase 4 4 2 ∷ []) [] 6)))) }
 {}
 
-/// An overdub goes backward where the loop does: its second streak begins at the last place, so it has
-/// two seams more.
+/// An overdub goes backward where the loop does: its second streak begins at the last place, so it
+/// has two seams more.
 pub fn an_overdub_goes_backward()
     ensures { let phrase = samples (1 ∷ 2 ∷ 3 ∷ 4 ∷ []) in
         let mixed = samples (11 ∷ 42 ∷ 33 ∷ 24 ∷ []) in

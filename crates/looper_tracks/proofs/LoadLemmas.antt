@@ -26,10 +26,11 @@ track_in-new_track : (chunks : ℕ) (s : StripSettings) (p : PoolOf) →
 unfolding seen
 track_in-new_track chunks s p = refl
 
-tracks_in-track_in-new_track : (chunks : ℕ) (ss : List StripSettings) (p : PoolOf) →
+tracks_in-new_track : (chunks : ℕ) (ss : List StripSettings) (p : PoolOf) →
     tracks_in p (map (new_track chunks) ss) ≡ first_tracks ss []
-tracks_in-track_in-new_track chunks [] p = refl
-tracks_in-track_in-new_track chunks (s ∷ ss) p = ap₂ (λ t ts. t ∷ ts) (track_in-new_track chunks s p) (tracks_in-track_in-new_track chunks ss p)
+tracks_in-new_track chunks [] p = refl
+tracks_in-new_track chunks (s ∷ ss) p =
+    ap₂ (λ t ts. t ∷ ts) (track_in-new_track chunks s p) (tracks_in-new_track chunks ss p)
 
 -- new tracks own no chunks
 new_owns : (chunks : ℕ) (s : StripSettings) (p : PoolOf) → p.all ≤ chunks →
@@ -185,7 +186,8 @@ pub loading_none : (ss : List StripSettings) (lists : List (List Sound)) (room c
     free_in p ≡ chunks →
     Loading ss lists room chunks ls p 0
 loading_none ss lists room chunks ls p is fits all =
-    let tracks : tracks_in p ls ≡ first_tracks ss [] = ap (tracks_in p) is ∙ tracks_in-track_in-new_track room ss p
+    let tracks : tracks_in p ls ≡ first_tracks ss [] = ap (tracks_in p) is
+        ∙ tracks_in-new_track room ss p
     in let none : used (map tape_of (tracks_in p ls)) ≡ 0 = ap (λ ts. used (map tape_of ts)) tracks
     ∙ no_tapes ss
     in record {
@@ -277,7 +279,8 @@ track_begun chunks s list l l' p p' is some did = record {
   others = did.others;
 }
 
-pub track_without : (chunks : ℕ) (s : StripSettings) (list : List Sound) (l : TrackOf) (p : PoolOf) →
+pub track_without : (chunks : ℕ) (s : StripSettings) (list : List Sound) (l : TrackOf)
+    (p : PoolOf) →
     MayLoad s list chunks l p → length list ≡ 0 → DidTrack (λ reach t. first_track list s) l l p p
 track_without chunks s (x ∷ xs) l p may none = absurd (omega arith)
 track_without chunks s [] l p may none =

@@ -84,7 +84,8 @@ runs_later k ls l p a b less is asks some isnt so_far =
     in so_far ∙ ap (λ us. running_session (tracks_in p us)) (opened ls k l less is)
     ∙ none_else (session_asker l.asker) (running_session (tracks_in p (drop (k + 1) ls))) none
 
-pub runs_here : (k : ℕ) (ls : List TrackOf) (l : TrackOf) (p : PoolOf) (a : Option Asker) (b : Bool) →
+pub runs_here : (k : ℕ) (ls : List TrackOf) (l : TrackOf) (p : PoolOf) (a : Option Asker)
+    (b : Bool) →
     k < length ls → l ≡ get_or ls k l → a ≡ session_asker l.asker → b ≡ is_some a → b ≡ true →
     running_session (tracks_in p ls) ≡ running_session (tracks_in p (drop k ls)) →
     a ≡ running_session (tracks_in p ls)

@@ -158,14 +158,16 @@ none_done act ls k p past inside =
       count = refl;
     }
 
-pub one_at : (act : ℕ → Track → Track) (ls : List TrackOf) (k : ℕ) (d l' : TrackOf) (p p' : PoolOf) →
+pub one_at : (act : ℕ → Track → Track) (ls : List TrackOf) (k : ℕ) (d l' : TrackOf)
+    (p p' : PoolOf) →
     k < length ls → AreIn p ls → DidTrack act (get_or ls k d) l' p p' →
     DidAll (at_index k act) ls (set ls k l') p p'
 one_at act ls k d l' p p' less inside did =
     one_done act ls k (get_or ls k d) l' p p' less (get_or_default ls k d (get_or ls k d) less)
     inside did
 
-pub one_alone : (act : ℕ → Track → Track) (ls : List TrackOf) (k : ℕ) (d l' : TrackOf) (p : PoolOf) →
+pub one_alone : (act : ℕ → Track → Track) (ls : List TrackOf) (k : ℕ) (d l' : TrackOf)
+    (p : PoolOf) →
     k < length ls → AreIn p ls → DidTrackAlone act (get_or ls k d) l' →
     DidAll (at_index k act) ls (set ls k l') p p
 one_alone act ls k d l' p less inside did =

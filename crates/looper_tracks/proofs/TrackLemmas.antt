@@ -28,7 +28,8 @@ all_set P (x ∷ xs) zero y here all = (here, all.1)
 all_set P (x ∷ xs) (suc k) y here all = (all.0, all_set P xs k y here all.1)
 
 -- one track stays beside one that changes
-beside_one : {s s' : StripOf} {p p' : PoolOf} (u : TrackOf) → OthersStay s s' p p' → Owns u.strip p →
+beside_one : {s s' : StripOf} {p p' : PoolOf} (u : TrackOf) → OthersStay s s' p p' →
+    Owns u.strip p →
     Apart u.strip s → StaysBeside s' p p' u.strip
 beside_one u others owns apart = others u.strip (record { owns = owns; apart = apart })
 
@@ -62,7 +63,8 @@ pub record Changed (ls : List TrackOf) (k : ℕ) (l' : TrackOf) (p p' : PoolOf) 
   pub apart : AreApart (set ls k l')
 
 track_changes :
-    (ls : List TrackOf) (k : ℕ) (l l' : TrackOf) (p p' : PoolOf) → k < length ls → l ≡ get_or ls k l →
+    (ls : List TrackOf) (k : ℕ) (l l' : TrackOf) (p p' : PoolOf) → k < length ls →
+        l ≡ get_or ls k l →
     AllByRecursion (OwnsTrack p) ls → AreApart ls →
     Owns l'.strip p' → OthersStay l.strip l'.strip p p' → Changed ls k l' p p'
 track_changes [] k l l' p p' less is own apart owns others = absurd (omega arith)
@@ -115,7 +117,8 @@ pub record Turned (act : ℕ → Track → Track) (ls : List TrackOf) (k : ℕ) 
       ≡ reach_in l.strip p
   pub here : track_in p l ≡ get_or (tracks_in p ls) k (track_in p l)
 
-pub turned : (act : ℕ → Track → Track) (ls : List TrackOf) (k : ℕ) (l l' : TrackOf) (p p' : PoolOf) →
+pub turned : (act : ℕ → Track → Track) (ls : List TrackOf) (k : ℕ) (l l' : TrackOf)
+    (p p' : PoolOf) →
     k < length ls → l ≡ get_or ls k l → AreIn p ls → DidTrack act l l' p p' →
     Turned act ls k l l' p p'
 turned act ls k l l' p p' less is inside did =

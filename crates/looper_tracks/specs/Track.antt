@@ -1,7 +1,7 @@
--- A track here is a strip with its gain and, while a save pins it, who asked for that save: with the
--- pool it is a track of the rules. The tracks of a looper stand over one pool, and no two of them
--- have a chunk in common. A call on one track leaves every other as it was, and free chunks and those
--- of all tracks are together as many as before.
+-- A track here is a strip with its gain and, while a save pins it, who asked for that save: with
+-- the pool it is a track of the rules. The tracks of a looper stand over one pool, and no two of
+-- them have a chunk in common. A call on one track leaves every other as it was, and free chunks
+-- and those of all tracks are together as many as before.
 -- "The looper" in docs/rules.md.
 use Rattle.std.specs.Prelude.{◌≡◌, ℕ, ◌+◌, ⊤, List, [], ◌∷◌, map, length, Option}
 use Rattle.std.specs.List.{AllByRecursion}

@@ -34,7 +34,8 @@ pub(crate) fn play_all(
     ensures tracks { DidAll (swept itself (track_over step input.now))
         tracks.old tracks.new pool.old pool.new }
     ensures sums { sums.new ≡ added_all sums.old
-        (map given_of (all_over step input.now (free_in pool.old) (tracks_in pool.old tracks.old))) }
+        (map given_of
+            (all_over step input.now (free_in pool.old) (tracks_in pool.old tracks.old))) }
     ensures within { AreSumsOf 16 sums.new }
 {
     for k in 0..tracks.len() {

@@ -16,11 +16,7 @@ use loop_strip::{Given, Pool};
 use sl_commands::{Control, Face, Globals, Target};
 
 /// A verb given to all.
-fn give_all(
-    tracks: &mut [Track],
-    pool: &mut Pool,
-    given: Given,
-)
+fn give_all(tracks: &mut [Track], pool: &mut Pool, given: Given)
     requires inside { AreIn pool.old tracks.old }
     ensures { DidAll (swept itself (on_loop (gives given)))
         tracks.old tracks.new pool.old pool.new }
@@ -31,12 +27,7 @@ fn give_all(
 }
 
 /// A verb given to the track of this index, where there is one.
-fn give_one(
-    tracks: &mut [Track],
-    pool: &mut Pool,
-    index: usize,
-    given: Given,
-)
+fn give_one(tracks: &mut [Track], pool: &mut Pool, index: usize, given: Given)
     requires inside { AreIn pool.old tracks.old }
     ensures { DidAll (at_index index (on_loop (gives given)))
         tracks.old tracks.new pool.old pool.new }
@@ -61,12 +52,7 @@ pub(crate) fn give_to(
     match target {
         Target::One(index) => give_one(tracks, pool, index as usize, given),
         Target::All => give_all(tracks, pool, given),
-        Target::Selected => give_one(
-            tracks,
-            pool,
-            selected as usize,
-            given,
-        ),
+        Target::Selected => give_one(tracks, pool, selected as usize, given),
     }
 }
 

@@ -126,11 +126,7 @@ impl Track {
     }
 
     /// A verb given to its loop.
-    pub(crate) fn give(
-        &mut self,
-        pool: &mut Pool,
-        given: Given,
-    )
+    pub(crate) fn give(&mut self, pool: &mut Pool, given: Given)
         requires owns { Owns self.old.strip pool.old }
         ensures { DidTrack (on_loop (gives given))
             self.old self.new pool.old pool.new }

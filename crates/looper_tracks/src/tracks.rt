@@ -18,9 +18,9 @@ ghost use Rattle.looper_tracks.specs.Tracks.{free_among, IsFreeAt, DidTracks};
 use crate::asker::Asker;
 use crate::calm::calm_frames;
 use crate::faces::take_faces;
-use crate::track::Track;
 use crate::span::{any_waits, play_all, quiet_frames};
 use crate::sweep::{give_to, meet_boundaries, pin_all, pin_one, release_all, release_one, set_to};
+use crate::track::Track;
 use loop_strip::{Given, Pool};
 use mixer_fades::Sum;
 use sl_base::Frame;
@@ -54,23 +54,12 @@ impl Tracks {
     }
 
     /// A verb given to the loops of a target.
-    pub fn give(
-        &mut self,
-        target: Target,
-        selected: u8,
-        given: Given,
-    )
+    pub fn give(&mut self, target: Target, selected: u8, given: Given)
         ensures { DidTracks
             (at_target target selected (on_loop (gives given)))
             self.old self.new }
     {
-        give_to(
-            &mut self.tracks,
-            &mut self.pool,
-            target,
-            selected,
-            given,
-        );
+        give_to(&mut self.tracks, &mut self.pool, target, selected, given);
     }
 
     /// A control set of the loops of a target.

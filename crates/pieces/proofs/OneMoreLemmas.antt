@@ -313,7 +313,8 @@ pub before-none : (ys : List Piece) → Solid ys → before 0 ys ≡ []
 before-none [] s = refl
 before-none (y ∷ ys) s = grind (arith, s.0)
 
-continues-past : (xs ys : List Piece) (a place : ℕ) → total xs ≡ place → Solid ys → ends a xs ≡ true →
+continues-past : (xs ys : List Piece) (a place : ℕ) → total xs ≡ place → Solid ys →
+    ends a xs ≡ true →
     Continues place a (xs ++ ys)
 continues-past xs ys a place e s t =
     let z : total xs + 0 ≡ place = omega (arith, e) in
@@ -358,7 +359,8 @@ inserted-continues-at place a ps ps' e lt s =
 
 pub joined-continues-at : (a : ℕ) (ps ps' : List Piece) → ps' ≡ joined a ps →
     Continues (length (addresses ps) + 1) (a + 1) ps'
-joined-continues-at a ps ps' e = rw e (joined-continues a (length (addresses ps)) ps (length-addresses ps))
+joined-continues-at a ps ps' e =
+    rw e (joined-continues a (length (addresses ps)) ps (length-addresses ps))
 
 pub inserted-steps : (place a k : ℕ) (ps xs ys : List Piece) → k ≡ length (before place ps) →
     xs ≡ split place ps → ys ≡ joined a (take k xs) ++ drop k xs → ys ≡ inserted place a ps
@@ -444,19 +446,22 @@ joined-length-continues place a ps e r =
     let k : length (joined a ps) ≡ length ps = rw g at h in
     omega (arith, k)
 
-continues-kept-here : (b : Bool) (place : ℕ) (p : Piece) (ps qs : List Piece) → nat_lt place p.len ≡ b →
+continues-kept-here : (b : Bool) (place : ℕ) (p : Piece) (ps qs : List Piece) →
+    nat_lt place p.len ≡ b →
     offset place (p ∷ ps) ≡ 0 → Solid qs →
     (offset (place - p.len) ps ≡ 0 → (offset (place - p.len) (ps ++ qs) ≡ 0)
     × (before (place - p.len) (ps ++ qs) ≡ before (place - p.len) ps)) →
     (offset place (p ∷ (ps ++ qs)) ≡ 0) × (before place (p ∷ (ps ++ qs)) ≡ before place (p ∷ ps))
 continues-kept-here true place p ps qs e o s f = let z : place ≡ 0 = rw e at o in rw e (z, refl)
-continues-kept-here false place p ps qs e o s f = let z : offset (place - p.len) ps ≡ 0 = rw e at o in
+continues-kept-here false place p ps qs e o s f = let z : offset (place - p.len) ps ≡ 0 =
+    rw e at o in
     let k = f z in rw e (k.0, ap (λ t. p ∷ t) k.1)
 
 pub continues-kept : (place : ℕ) (ps qs : List Piece) → offset place ps ≡ 0 → Solid qs →
     (offset place (ps ++ qs) ≡ 0) × (before place (ps ++ qs) ≡ before place ps)
 continues-kept place [] qs o s = let z : place ≡ 0 = o in rw z (offset-none qs s, before-none qs s)
-continues-kept place (p ∷ ps) qs o s = continues-kept-here (nat_lt place p.len) place p ps qs refl o s
+continues-kept place (p ∷ ps) qs o s =
+    continues-kept-here (nat_lt place p.len) place p ps qs refl o s
     (λ e. continues-kept (place - p.len) ps qs e s)
 
 pub continues-extended : (place a : ℕ) (ps qs : List Piece) → Solid qs → Continues place a ps →
@@ -608,7 +613,8 @@ inserted-hint place a i ps xs e n lt =
     rw (e, n) (record {
       within = omega (arith, l);
       begins =
-          rw (take-append_seam (joined a (before place ps)) (behind place ps)) (omega (arith, b, j));
+          rw (take-append_seam (joined a (before place ps)) (behind place ps))
+              (omega (arith, b, j));
     })
 
 pub joined-hint : (a i n : ℕ) (ps xs : List Piece) → xs ≡ joined a ps → i ≡ length (joined a ps) →

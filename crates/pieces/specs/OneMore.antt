@@ -1,7 +1,7 @@
 -- One address more, in place of another or before it, or behind all of them.
 -- Where the piece before it goes on to that address, this piece grows, and no piece is added.
--- Backward it is the piece behind it that grows. So a streak of such writes at addresses in order adds
--- pieces at its first write alone.
+-- Backward it is the piece behind it that grows. So a streak of such writes at addresses in order
+-- adds pieces at its first write alone.
 -- "Pieces" in docs/rules.md.
 use Rattle.std.specs.Prelude.{◌≡◌, ◌≤◌, ℕ, zero, suc, ◌+◌, ◌==◌, List, [], ◌∷◌, ◌++◌, Bool, true, false, if◌then◌else◌, IsTrue, not, ◌||◌, ◌&&◌}
 use Rattle.pieces.specs.Pieces.{Piece, total}

@@ -1,5 +1,5 @@
--- A piece is a stretch of addresses, forward or backward: (10, 4, forward) stands for 10 11 12 13, and
--- (30, 3, backward) for 30 29 28. A list of pieces stands for the list of their addresses, one
+-- A piece is a stretch of addresses, forward or backward: (10, 4, forward) stands for 10 11 12 13,
+-- and (30, 3, backward) for 30 29 28. A list of pieces stands for the list of their addresses, one
 -- piece behind the other.
 -- "Pieces" in docs/rules.md.
 use Rattle.std.specs.Prelude.{◌≤◌, ℕ, ◌+◌, ◌-◌, ◌^◌, List, [], ◌∷◌, ◌++◌, map, Bool, if◌then◌else◌, IsTrue, IsFalse}

@@ -1,4 +1,5 @@
-//! Lists of pieces: stretches of addresses, one behind the other, that stand for a list of addresses.
+//! Lists of pieces: stretches of addresses, one behind the other, that stand for a list of
+//! addresses.
 //!
 //! - A piece has at least one address, and goes forward or backward. All its addresses lie within 0
 //!   and 4294967295.
@@ -6,8 +7,8 @@
 //!   takes memory.
 //! - Each edit says the list of addresses afterwards, as the plain edit of a list, and the very
 //!   pieces.
-//! - One address more grows the piece that it goes on from. So a streak of writes in order adds pieces
-//!   at its first alone.
+//! - One address more grows the piece that it goes on from. So a streak of writes in order adds
+//!   pieces at its first alone.
 //! - A list keeps a hint: where it was worked on last. What is read or written in order is found
 //!   from there.
 //!

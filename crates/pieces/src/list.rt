@@ -215,7 +215,8 @@ impl PieceList {
     pub fn extend(&mut self, pieces: &[Piece])
         requires solid { Solid pieces.now }
         requires room { length self.old.items + length pieces.now ≤ self.old.room }
-        requires short { length (addresses self.old.items) + length (addresses pieces.now) < 2 ^ 32 }
+        requires short { length (addresses self.old.items) + length
+            (addresses pieces.now) < 2 ^ 32 }
         ensures pieces { self.new ≡ holding (self.old.items ++ pieces.now) self.old }
         ensures addresses { addresses self.new.items ≡ addresses self.old.items
             ++ addresses pieces.now }

@@ -7,8 +7,8 @@ ghost use Rattle.pieces.specs.Splitting.{back as back_of, front as front_of};
 
 use std::marker::Model;
 
-/// A stretch of addresses: `start`, `start + 1` and so on, or `start`, `start - 1` and so on where it
-/// is backward.
+/// A stretch of addresses: `start`, `start + 1` and so on, or `start`, `start - 1` and so on where
+/// it is backward.
 #[derive(Clone, Copy, PartialEq, Eq)]
 pub struct Piece {
     pub start: u32,

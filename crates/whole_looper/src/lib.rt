@@ -12,8 +12,8 @@
 //! - What a save sends is read from the pins (`saved`).
 //! - Only `new` takes memory.
 //!
-//! Begin with `looper`, then `apply`, `save` and `load`. Below them looper_tracks has all loops over
-//! their pool. The rules are
+//! Begin with `looper`, then `apply`, `save` and `load`. Below them looper_tracks has all loops
+//! over their pool. The rules are
 //! "The looper" to "The run" in docs/rules.md.
 #![tactic(auto)]
 

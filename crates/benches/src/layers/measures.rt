@@ -104,7 +104,8 @@ pub fn fresh_cells(
     best
 }
 
-/// A write of a new cell in a streak, backward before a place, each time `count` frames further down.
+/// A write of a new cell in a streak, backward before a place, each time `count` frames further
+/// down.
 pub fn new_cells_backward(
     rt: &HostRuntime,
     layers: &mut Layers,

@@ -61,7 +61,8 @@ impl Parts {
     #[tactic(auto, using(crate::proofs::FrameLemmas::unbroken))]
     fn break_any_streak(&mut self)
         requires coupled { self.old.layers.writing ≡ is_writing self.old.deck.mode }
-        requires still { is_writing self.old.deck.mode ≡ false → self.old.layers.stack.streak ≡ None }
+        requires still { is_writing self.old.deck.mode ≡ false →
+            self.old.layers.stack.streak ≡ None }
         ensures ok { loop_of self.new ≡ with_stack (streak_broken (loop_of self.old).stack)
             (loop_of self.old) }
         ensures tape { self.new.layers.tape ≡ self.old.layers.tape }
@@ -79,7 +80,8 @@ impl Parts {
         requires place { self.old.deck.pos ≤ max_list_frames }
         requires length { length ≡ length_of (loop_of self.old) }
         requires coupled { self.old.layers.writing ≡ is_writing self.old.deck.mode }
-        requires still { is_writing self.old.deck.mode ≡ false → self.old.layers.stack.streak ≡ None }
+        requires still { is_writing self.old.deck.mode ≡ false →
+            self.old.layers.stack.streak ≡ None }
         ensures ok { loop_of self.new ≡ goes_on round (loop_of self.old) }
         ensures tape { self.new.layers.tape ≡ self.old.layers.tape }
         ensures pinned { self.new.pinned ≡ self.old.pinned }
@@ -100,7 +102,8 @@ impl Parts {
     fn go_on(&mut self)
         requires place { self.old.deck.pos ≤ max_list_frames }
         requires coupled { self.old.layers.writing ≡ is_writing self.old.deck.mode }
-        requires still { is_writing self.old.deck.mode ≡ false → self.old.layers.stack.streak ≡ None }
+        requires still { is_writing self.old.deck.mode ≡ false →
+            self.old.layers.stack.streak ≡ None }
         ensures ok { loop_of self.new ≡ goes_on
             (wraps self.old.deck.backward self.old.deck.pos (length_of (loop_of self.old)))
             (loop_of self.old) }

@@ -16,8 +16,10 @@ invariant_of-self c =
       held-closed-at c.self.inside.tape.len c.cut.new.self.next c.cycle_at-cycle.result
           c.len-end.result c.seams-seams.result (addresses c.pieces.result.now) c.self.inside.closed
           c.add.new.self c.self.inside.fill c.cut.new.self c.self.inside.top c.self.inside.pin
-          (addresses c.self.inside.pinned.items) c.self.inside.seams (search rules) c.self.invariant.0
-          (rw c.add.ensures refl) (rw c.add.ensures refl) c.len-end.ensures.value same_seams same_next
+          (addresses c.self.inside.pinned.items) c.self.inside.seams
+              (search rules) c.self.invariant.0
+          (rw c.add.ensures refl)
+              (rw c.add.ensures refl) c.len-end.ensures.value same_seams same_next
           low,
       c.self.invariant.1,
     )
