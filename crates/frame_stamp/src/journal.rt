@@ -1,6 +1,6 @@
 //! Stamped entries, with room for a quota of each sender.
 
-ghost use Rattle.std.specs.Prelude.{◌≡◌, ◌<◌, ◌≤◌, [], ◌∷◌, ◌++◌, length, ◌↔◌, IsTrue, IfOk};
+ghost use Rattle.std.specs.Prelude.{◌≡◌, ◌<◌, ◌≤◌, [], ◌∷◌, ◌++◌, ◌*◌, length, ◌↔◌, IsTrue, IfOk};
 ghost use Rattle.sl_base.specs.Limits.{max_quota};
 ghost use Rattle.sl_commands.specs.Entries.{last_frame, are_stamped};
 ghost use Rattle.frame_stamp.specs.Journals.{JournalOf, HasRoom, room_of, next_seq, next_entry};
@@ -82,6 +82,19 @@ impl Journal {
             ++ next_entry frame sender command self.old.entries ∷ [] }
         ensures quota { self.new.quota ≡ self.old.quota }
     {
+        let seq = self.count(sender);
+        self.put(frame, sender, command);
+        seq
+    }
+
+    /// Puts one entry at the end, with its sender's next number.
+    fn put(&mut self, frame: u64, sender: u8, command: Command)
+        requires room { HasRoom sender self.old }
+        requires frame { last_frame self.old.entries ≤ frame }
+        ensures entries { self.new.entries ≡ self.old.entries
+            ++ next_entry frame sender command self.old.entries ∷ [] }
+        ensures quota { self.new.quota ≡ self.old.quota }
+    {
         let seq = self.counts[sender as usize];
         self.counts[sender as usize] = seq + 1;
         self.entries.push_reserved(Entry {
@@ -90,7 +103,6 @@ impl Journal {
             seq,
             command,
         });
-        seq
     }
 
     pub fn entries(&self) -> &[Entry]
@@ -106,6 +118,17 @@ impl Journal {
         ensures stamped { IsTrue (are_stamped self.entries) }
     {
         Entries::of(self.entries)
+    }
+
+    /// What always holds of a journal.
+    pub fn facts(&self)
+        ensures stamped { IsTrue (are_stamped self.now.entries) }
+        ensures quota { self.now.quota ≤ max_quota }
+        ensures osc { next_seq 0 self.now.entries ≤ self.now.quota }
+        ensures midi { next_seq 1 self.now.entries ≤ self.now.quota }
+        ensures saver { next_seq 2 self.now.entries ≤ 2 * self.now.quota }
+    {
+        let _quota = self.quota;
     }
 
     /// The number of entries that senders 0 and 1 may have.

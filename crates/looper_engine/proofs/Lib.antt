@@ -7,3 +7,4 @@ pub mod SentLemmas
 pub mod StartLemmas
 pub mod QueueLemmas
 pub mod StretchLemmas
+pub mod StepLemmas

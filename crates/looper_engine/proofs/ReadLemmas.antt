@@ -13,9 +13,9 @@ use Rattle.looper_rules.specs.Looper.{Track, Looper}
 use Rattle.looper_rules.specs.Saves.{Save}
 use Rattle.looper_rules.specs.SaveBlocks.{blocks_for_all}
 use Rattle.looper_rules.specs.Unanswered.{holds_of, IsHeld}
-use Rattle.save_parts.specs.declared.step.Step.{Step}
-use Rattle.save_parts.specs.declared.step.Step.TheVariants.{Head, Part, End}
-use Rattle.save_parts.specs.Steps.{part_count, part_step, step_behind, step_at}
+use Rattle.looper_engine.specs.declared.step.Step.{Step}
+use Rattle.looper_engine.specs.declared.step.Step.TheVariants.{Head, Part, End}
+use Rattle.looper_engine.specs.Steps.{part_count, part_step, step_behind, step_at}
 use Rattle.frame_stamp.specs.Journals.{JournalOf}
 use Rattle.engine_steps.specs.Engines.{EngineOf}
 use Rattle.whole_looper.specs.Loopers.{held_on, pinned_at}

@@ -9,8 +9,8 @@ use Rattle.looper_rules.specs.Saves.{Save}
 use Rattle.looper_rules.specs.SaveBlocks.{blocks_of_save, blocks_for_all}
 use Rattle.looper_rules.specs.Unanswered.{holds_of, HoldPins}
 use Rattle.run_laws.specs.Apart.{AreAllApart}
-use Rattle.save_parts.specs.Steps.{step_at, block_count, block_of}
-use Rattle.save_parts.proofs.StepLemmas.{length-blocks_of, block_at}
+use Rattle.looper_engine.specs.Steps.{step_at, block_count, block_of}
+use Rattle.looper_engine.proofs.StepLemmas.{length-blocks_of, block_at}
 use Rattle.frame_stamp.specs.Journals.{JournalOf}
 use Rattle.engine_steps.specs.Engines.{EngineOf, Beginning, waiting, first_of, next_block, sent_of, sent_from, block_sent}
 use Rattle.engine_steps.specs.InStep.{SoFar, IsInStep, IsPart, with_block}

@@ -8,8 +8,8 @@ use Rattle.sl_commands.specs.declared.Target.{Target}
 use Rattle.sl_commands.specs.declared.Target.TheVariants.{One, All, Selected}
 use Rattle.sl_commands.specs.Commands.{is_release_target}
 use Rattle.sl_commands.specs.Blocks.{part_length, first_index}
-use Rattle.save_parts.specs.declared.step.Step.{Step}
-use Rattle.save_parts.specs.declared.step.Step.TheVariants.{Part}
+use Rattle.looper_engine.specs.declared.step.Step.{Step}
+use Rattle.looper_engine.specs.declared.step.Step.TheVariants.{Part}
 use Rattle.looper_rules.specs.Stack.{pinned_list}
 use Rattle.looper_rules.specs.Looper.{Track, Looper}
 use Rattle.looper_rules.specs.Saves.{Save}

@@ -3,3 +3,4 @@ pub mod Queues
 pub mod Holding
 pub mod EngineParts
 pub mod Stretches
+pub mod Steps

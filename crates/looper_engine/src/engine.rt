@@ -1,13 +1,13 @@
 //! The engine, as it is called.
 
-ghost use Rattle.std.specs.Prelude.{◌≡◌, ◌≤◌, ◌<◌, ◌+◌, ◌↔◌, length, map, ◌≢◌, [], None, Err, IfOk, IsErrOf, IsSome, IfSome, IsTrue};
+ghost use Rattle.std.specs.Prelude.{◌≡◌, ◌≤◌, ◌<◌, ◌+◌, ◌↔◌, length, map, ◌≢◌, [], ◌∷◌, ◌++◌, None, Err, IfOk, IsErrOf, IsSome, IfSome, IsTrue};
 ghost use Rattle.sl_base.specs.Limits.{max_chunks, max_quota, max_value, max_session_frames};
 ghost use Rattle.sl_commands.specs.Commands.{is_release_target};
 ghost use Rattle.sl_commands.specs.Entries.{last_frame};
 ghost use Rattle.looper_rules.specs.Room.{used};
 ghost use Rattle.looper_rules.specs.Entries.{reply, save};
 ghost use Rattle.looper_rules.specs.Reached.{AreLists, IsBeginning, KeepsLooper};
-ghost use Rattle.frame_stamp.specs.Journals.{HasRoom, next_seq};
+ghost use Rattle.frame_stamp.specs.Journals.{HasRoom, next_seq, next_entry};
 ghost use Rattle.engine_steps.specs.Engines.{Beginning, first_engine, entry_of, ClearsSent, took, went_on, put_out, left, next_block, due_target, block_sent};
 ghost use Rattle.engine_steps.specs.InStep.{IsInStep, SoFar, nothing, with_taken, with_frames, with_block};
 ghost use Rattle.whole_looper.specs.Loopers.{refused_in};
@@ -23,7 +23,7 @@ use crate::setup::{EngineFault, Setup};
 use crate::taking::{asked_by, made_save, released_by};
 use frame_stamp::Journal;
 use sl_base::Frame;
-use sl_commands::{Block, Command, Initial, MIDI, OSC, Reply, Target};
+use sl_commands::{Block, Command, Initial, Reply, Target};
 use std::alloc::Global;
 use std::marker::Model;
 use whole_looper::{Looper, Refused};
@@ -48,6 +48,17 @@ impl Model for Engine {
     ghost invariant = { λ e. IsEngine (engine_of e.looper e.journal e.frames_done e.queue) };
 }
 
+/// Stamps this command, once, behind the entries of a journal.
+fn stamp(journal: &mut Journal, frame: u64, sender: u8, command: Command)
+    requires room { HasRoom sender journal.old }
+    requires frame { last_frame journal.old.entries ≤ frame }
+    ensures entries { journal.new.entries ≡ journal.old.entries
+        ++ next_entry frame sender command journal.old.entries ∷ [] }
+    ensures quota { journal.new.quota ≡ journal.old.quota }
+{
+    journal.stamp(frame, sender, command);
+}
+
 impl Engine {
     /// An engine before all frames and entries, with the list of each loop by index; loops without
     /// one begin empty. Only this call takes memory.
@@ -64,7 +75,7 @@ impl Engine {
         ensures limit { IsErrOf result EngineFault.Limit ↔
             (setup.now.chunks < used (map length initial.now)) }
     {
-        let _loops = setup.loops();
+        setup.facts();
         match Looper::new(alloc, &setup.settings, setup.chunks, initial.as_slice()) {
             Err(Refused::Limit) => Err(EngineFault::Limit),
             Err(Refused::Memory) => Err(EngineFault::Memory),
@@ -101,9 +112,7 @@ impl Engine {
     fn check_saves(&self)
         ensures { self.now.looper.saves < max_value }
     {
-        let _osc = self.journal.count(OSC);
-        let _midi = self.journal.count(MIDI);
-        let _quota = self.journal.quota();
+        self.journal.facts();
     }
 
     /// Stamps this command of this sender with the number of frames done, applies it, and gives the
@@ -125,7 +134,7 @@ impl Engine {
         let applied = self.looper.apply(self.frames_done, sender, seq, &command);
         self.queue.settle(released);
         self.queue.join(made_save(applied.made_save, asked));
-        self.journal.stamp(self.frames_done, sender, command);
+        stamp(&mut self.journal, self.frames_done, sender, command);
         applied.answer
     }
 
@@ -187,6 +196,17 @@ impl Engine {
         ensures { result.now ≡ self.now.journal }
     {
         &self.journal
+    }
+
+    /// What always holds of an engine.
+    pub fn facts(&self)
+        ensures within { self.now.frames ≤ max_session_frames }
+        ensures stamped { last_frame self.now.journal.entries ≤ self.now.frames }
+        ensures kept { KeepsLooper self.now.frames self.now.looper }
+        ensures saves { self.now.looper.saves ≤ next_seq 0 self.now.journal.entries
+            + next_seq 1 self.now.journal.entries }
+    {
+        let _done = self.frames_done;
     }
 
     /// How many frames are done, 1099511627776 at most.

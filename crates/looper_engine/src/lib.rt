@@ -7,10 +7,11 @@
 //!   the run of its journal over the input so far, whatever is taken and whatever frames come.
 //! - A save keeps no list of its own. Its blocks are read from the pinned lists, as they were at
 //!   its entry, whatever was played since: `next_block` gives the next one, `block_sent` goes on,
-//!   and `due` tells which save waits for its release.
+//!   and `due` tells which save waits for its release. Which block comes next is told from the
+//!   lengths of the lists alone (`step`), and only the frames of the part that is due are read.
 //! - Only `Engine::new` takes memory.
 //!
-//! Begin with `engine`, then `saving`; `laws` has what holds of its calls together. The rules are
+//! Begin with `engine`, then `saving` and `step`; `laws` and `step_laws` have what holds of its calls together. The rules are
 //! "The run", "Entries and replies", "Saves" and "Blocks of a save" in docs/rules.md.
 #![tactic(auto)]
 
@@ -19,6 +20,8 @@ mod laws;
 mod queue;
 mod saving;
 mod setup;
+mod step;
+mod step_laws;
 mod taking;
 #[cfg(test)]
 mod tests;
@@ -29,3 +32,4 @@ pub use laws::{
     the_blocks_of_a_save_hold_its_lists_at_its_entry,
 };
 pub use setup::{EngineFault, Setup};
+pub use step_laws::{a_save_has_as_many_blocks_as_steps, each_step_is_the_block};

@@ -3,14 +3,14 @@
 ghost use Rattle.std.specs.Prelude.{◌≡◌, ◌≤◌, ◌<◌, ◌+◌, [], ◌∷◌, length, map, take, drop};
 ghost use Rattle.sl_base.specs.Limits.{max_loops};
 ghost use Rattle.sl_commands.specs.Blocks.{first_index};
-ghost use Rattle.save_parts.specs.Steps.{block_count, step_at, block_of};
-ghost use Rattle.save_parts.specs.declared.step.Step.TheVariants.{Head};
+ghost use Rattle.looper_engine.specs.Steps.{block_count, step_at, block_of};
+ghost use Rattle.looper_engine.specs.declared.step.Step.TheVariants.{Head};
 ghost use Rattle.whole_looper.specs.Loopers.{pinned_at};
 ghost use Rattle.looper_engine.specs.Holding.{lists_for, pinned_on, CanRead, Reads};
 
 use crate::queue::Pending;
+use crate::step::{Step, block_count, step_at};
 use arrayvec::ArrayVec;
-use save_parts::{Step, block_count, step_at};
 use sl_base::Frame;
 use sl_commands::{Block, PartFrames, Target};
 use whole_looper::Looper;

@@ -15,6 +15,13 @@ pub struct Setup {
 }
 
 impl Setup {
+    /// What always holds of a setup.
+    pub fn facts(&self)
+        ensures { IsTrue (are_settings self.now.settings) }
+    {
+        self.settings.loop_count();
+    }
+
     /// How many loops there are, 1 to 16.
     pub fn loops(&self) -> u8
         ensures value { result ≡ length self.now.settings.strips }

@@ -1,6 +1,6 @@
 use Rattle.std.proofs.Common.{ap, ◌∙◌}
 use Rattle.looper_engine.proofs.ReadLemmas.{reads_is}
-use Rattle.save_parts.specs.Steps.{step_at}
+use Rattle.looper_engine.specs.Steps.{step_at}
 use Rattle.looper_engine.proofs.saving.step_for.Goals as goal
 
 pub returns-clause-reads : goal.returns-clause-reads

@@ -13,7 +13,7 @@ over-requires-clause-kept c =
     in start_kept c.args.setup.now.settings c.args.setup.now.chunks c.args.initial.now c.in-Ok.looper
     looper
     (beginning c.args.setup.now.settings c.args.setup.now.chunks c.args.initial.now
-    c.loops-loops.ensures.within c.requires.lists fits)
+    c.facts.ensures c.requires.lists fits)
 
 pub over-requires-clause-free : goal.over-requires-clause-free
 over-requires-clause-free c =
@@ -28,4 +28,4 @@ returns-in-Ok-clause-begins c =
     in at_any_rate c.over.result
     (IsBeginning c.args.setup.now.settings c.args.setup.now.chunks c.args.initial.now)
     (beginning c.args.setup.now.settings c.args.setup.now.chunks c.args.initial.now
-    c.loops-loops.ensures.within c.requires.lists fits)
+    c.facts.ensures c.requires.lists fits)

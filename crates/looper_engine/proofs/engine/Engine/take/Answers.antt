@@ -16,7 +16,7 @@ join-requires c =
 pub invariant_of-self : goal.invariant_of-self
 invariant_of-self c =
     let fields : Taken c.self.inside.looper c.apply-applied.new.self c.self.inside.journal
-    c.stamp.new.self c.self.inside.frames_done c.self.inside.queue c.settle.new.self
+    c.stamp.new.journal c.self.inside.frames_done c.self.inside.queue c.settle.new.self
     c.join.new.self c.args.sender c.count-seq.result c.args.command c.made_save.result
     c.released_by-released.result = search rules
     in let is = taken_is _ _ _ _ _ _ _ _ c.args.self.now _ _ _ _ _ c.self.view_is c.self.invariant
@@ -28,7 +28,7 @@ invariant_of-self c =
 pub returns-clause-took : goal.returns-clause-took
 returns-clause-took c =
     let fields : Taken c.self.inside.looper c.apply-applied.new.self c.self.inside.journal
-    c.stamp.new.self c.self.inside.frames_done c.self.inside.queue c.settle.new.self
+    c.stamp.new.journal c.self.inside.frames_done c.self.inside.queue c.settle.new.self
     c.join.new.self c.args.sender c.count-seq.result c.args.command c.made_save.result
     c.released_by-released.result = search rules
     in taken_is _ _ _ _ _ _ _ _ c.args.self.now _ _ _ _ _ c.self.view_is c.self.invariant
@@ -37,7 +37,7 @@ returns-clause-took c =
 pub returns-clause-in_step : goal.returns-clause-in_step
 returns-clause-in_step c =
     let fields : Taken c.self.inside.looper c.apply-applied.new.self c.self.inside.journal
-    c.stamp.new.self c.self.inside.frames_done c.self.inside.queue c.settle.new.self
+    c.stamp.new.journal c.self.inside.frames_done c.self.inside.queue c.settle.new.self
     c.join.new.self c.args.sender c.count-seq.result c.args.command c.made_save.result
     c.released_by-released.result = search rules
     in let answers : c.apply-applied.result.answer ≡ reply

@@ -2,7 +2,7 @@
 
 ghost use Rattle.std.specs.Prelude.{◌≡◌, ◌≤◌, ◌<◌, length};
 ghost use Rattle.sl_base.specs.Limits.{max_loops, max_list_frames};
-ghost use Rattle.save_parts.specs.Steps.{part_count, parts_in, block_count, part_step, step_behind, step_at};
+ghost use Rattle.looper_engine.specs.Steps.{part_count, parts_in, block_count, part_step, step_behind, step_at};
 
 /// What a block of a save is. `list` counts the lists of the save from 0; `place` is a multiple of
 /// 256, and `count` 1 to 256 frames.

@@ -1,7 +1,7 @@
 use Rattle.std.proofs.Common.{◌≡◌, ℕ, ◌+◌, ◌*◌, ◌≤◌, drop}
 use Rattle.sl_base.specs.Limits.{max_list_frames}
-use Rattle.save_parts.specs.Steps.{parts_in}
-use Rattle.save_parts.proofs.step.block_count.Given as goal
+use Rattle.looper_engine.specs.Steps.{parts_in}
+use Rattle.looper_engine.proofs.step.block_count.Given as goal
 
 abbrev pub invariant-loop-length : goal.invariant-loop-length
 invariant-loop-length l = record {

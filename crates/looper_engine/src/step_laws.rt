@@ -5,7 +5,7 @@ ghost use Rattle.sl_base.specs.Sounds.{Sound};
 ghost use Rattle.sl_commands.specs.declared.Target.{Target};
 ghost use Rattle.sl_commands.specs.Settings.{LooperSettings};
 ghost use Rattle.sl_commands.specs.Blocks.{blocks_of};
-ghost use Rattle.save_parts.specs.Steps.{block_count, step_at, block_of};
+ghost use Rattle.looper_engine.specs.Steps.{block_count, step_at, block_of};
 
 /// The block of each number is what its step says, by the lists of the save.
 pub fn each_step_is_the_block()

@@ -1,6 +1,6 @@
 use Rattle.std.proofs.Common.{◌≡◌, ℕ, ◌-◌, drop}
-use Rattle.save_parts.specs.Steps.{step_behind}
-use Rattle.save_parts.proofs.step.step_at.Given as goal
+use Rattle.looper_engine.specs.Steps.{step_behind}
+use Rattle.looper_engine.proofs.step.step_at.Given as goal
 
 abbrev pub invariant-loop-list : goal.invariant-loop-list
 invariant-loop-list l =

@@ -10,8 +10,8 @@ use Rattle.sl_commands.specs.declared.Block.{Block}
 use Rattle.sl_commands.specs.declared.Block.TheVariants.{Head, Part, End}
 use Rattle.sl_commands.specs.Settings.{LooperSettings}
 use Rattle.sl_commands.specs.Blocks.{part_length, first_index}
-use Rattle.save_parts.specs.declared.step.Step.{Step}
-use Rattle.save_parts.specs.declared.step.Step.TheVariants.{Head as HeadStep, Part as PartStep, End as EndStep}
+use Rattle.looper_engine.specs.declared.step.Step.{Step}
+use Rattle.looper_engine.specs.declared.step.Step.TheVariants.{Head as HeadStep, Part as PartStep, End as EndStep}
 
 -- how many parts a list of this length has
 abbrev pub part_count : ℕ → ℕ

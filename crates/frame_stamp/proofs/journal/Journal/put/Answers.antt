@@ -1,5 +1,5 @@
 use Rattle.frame_stamp.proofs.JournalLemmas.{journal_stamped}
-use Rattle.frame_stamp.proofs.journal.Journal.stamp.Goals as goal
+use Rattle.frame_stamp.proofs.journal.Journal.put.Goals as goal
 
 pub invariant_of-self : goal.invariant_of-self
 invariant_of-self c =

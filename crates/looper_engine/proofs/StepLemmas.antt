@@ -11,9 +11,9 @@ use Rattle.sl_commands.specs.declared.Block.TheVariants.{Head, Part, End}
 use Rattle.sl_commands.specs.Settings.{LooperSettings}
 use Rattle.sl_commands.specs.Blocks.{parts_behind, parts_of, parts_of_lists, first_index, blocks_of}
 use Rattle.run_laws.proofs.Saves.BlockCounts.{length-parts_of}
-use Rattle.save_parts.specs.declared.step.Step.{Step}
-use Rattle.save_parts.specs.declared.step.Step.TheVariants.{End as EndStep}
-use Rattle.save_parts.specs.Steps.{part_count, parts_in, block_count, part_step, step_behind, step_at, frames_at, block_of}
+use Rattle.looper_engine.specs.declared.step.Step.{Step}
+use Rattle.looper_engine.specs.declared.step.Step.TheVariants.{End as EndStep}
+use Rattle.looper_engine.specs.Steps.{part_count, parts_in, block_count, part_step, step_behind, step_at, frames_at, block_of}
 
 -- a part that is full, and one that isn't
 full : (b : Bool) (bs cs ds : List Block) → b ≡ true → bs ≡ ds → cond b bs cs ≡ ds

@@ -1,5 +1,0 @@
-use Rattle.save_parts.proofs.StepLemmas.{length-blocks_of}
-use Rattle.save_parts.proofs.laws.a_save_has_as_many_blocks_as_steps.Goals as goal
-
-pub returns : goal.returns
-returns c = length-blocks_of
