@@ -19,6 +19,7 @@ use Rattle.lazy_fill.specs.Marks.{marked, marked_cell}
 use Rattle.lazy_fill.specs.Streaks.{with_address, more_seams, IsShort, HasStreak, IsStreakOn, MeetsPiece, pieces_written}
 use Rattle.lazy_fill.specs.Fills.{FillOf, IsFill, fill_written, fill_cut, fill_extended}
 
+-- what is below a number is below a greater one
 pub below-more : (m n : ℕ) (xs : List ℕ) → m ≤ n → Below m xs → Below n xs
 below-more m n [] le b = tt
 below-more m n (x ∷ xs) le b = (omega (arith, le, b.0), below-more m n xs le b.1)
@@ -34,10 +35,12 @@ below-insert n zero a (x ∷ xs) lt b = (lt, b)
 below-insert n (suc place) a [] lt b = (lt, tt)
 below-insert n (suc place) a (x ∷ xs) lt b = (b.0, below-insert n place a xs lt b.1)
 
+-- two lists below a number, one behind the other
 pub below-append : (n : ℕ) (xs ys : List ℕ) → Below n xs → Below n ys → Below n (xs ++ ys)
 below-append n [] ys b c = c
 below-append n (x ∷ xs) ys b c = (b.0, below-append n xs ys b.1 c)
 
+-- addresses with the next one written among them
 pub below-written : (how : How) (place a : ℕ) (xs : List ℕ) → Below a xs →
     Below (a + 1) (with_address how place a xs)
 below-written Forward place a xs b =
@@ -97,6 +100,7 @@ once-append floor a (x ∷ xs) b o = (
   once-append floor a xs b.1 o.1,
 )
 
+-- the next address, written, stands once
 pub once-written : (floor : ℕ) (how : How) (place a : ℕ) (xs : List ℕ) → Below a xs →
     Once floor xs → Once floor (with_address how place a xs)
 once-written floor Forward place a xs b o = once-set floor place a xs b o
@@ -131,6 +135,7 @@ on-length Insert last place next ps pl b r =
 on-length Append last place next ps pl b r =
     joined-length-continues place next ps pl (rw (sym b) at r)
 
+-- a write adds pieces for as many seams as it counts
 pub written-length : (streak : Option LastWrite) (how : How) (place next : ℕ) (ps : List Piece) →
     IsPlace how place (length (addresses ps)) → Follows streak how place →
         HasStreak streak next ps →
@@ -153,6 +158,7 @@ length-insert [] (suc k) a = refl
 length-insert (x ∷ xs) zero a = omega arith
 length-insert (x ∷ xs) (suc k) a = let h = length-insert xs k a in omega (arith, h)
 
+-- a write keeps a list short
 pub short-written : (how : How) (place a : ℕ) (xs : List ℕ) → IsShort how (length xs) →
     length (with_address how place a xs) ≤ max_list_frames
 short-written Forward place a xs s = let h = length-set xs place a in omega (arith, h, s)
@@ -170,6 +176,7 @@ met-length Backward place next ps pl m =
 met-length Insert place next ps pl m = inserted-length-continues place next ps m
 met-length Append place next ps pl m = joined-length-continues place next ps pl m
 
+-- a write leaves no empty piece
 pub solid-written : (how : How) (place next : ℕ) (ps : List Piece) → Solid ps →
     Solid (pieces_written how place next ps)
 solid-written Forward place next ps s = overwritten-solid place next ps s
@@ -201,6 +208,7 @@ marked-append : (floor : ℕ) (xs : List ℕ) (a : ℕ) → floor ≤ a →
 marked-append floor [] a le = rw (fresh-marked floor a le) refl
 marked-append floor (x ∷ xs) a le = ap (λ t. marked_cell floor x ∷ t) (marked-append floor xs a le)
 
+-- the marks of a list with a fresh cell written
 pub marked-written : (floor : ℕ) (how : How) (place a : ℕ) (xs : List ℕ) → floor ≤ a →
     marked floor (with_address how place a xs) ≡ with_cell how place (fresh_cell a)
     (marked floor xs)
@@ -289,6 +297,7 @@ on-extended Backward place next ps qs s r = down-extended place next ps qs r
 on-extended Insert place next ps qs s r = continues-extended (place + 1) next ps qs s r
 on-extended Append place next ps qs s r = continues-extended (place + 1) next ps qs s r
 
+-- a streak goes on where pieces come behind
 pub streak-extended : (streak : Option LastWrite) (next : ℕ) (ps qs : List Piece) → Solid qs →
     HasStreak streak next ps → HasStreak streak next (ps ++ qs)
 streak-extended None next ps qs s r = tt

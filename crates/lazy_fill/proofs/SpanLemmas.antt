@@ -37,6 +37,7 @@ fill-written-over f place last e i lt fo =
     (overwritten-addresses place f.next f.pieces inside)
     (overwritten-continues place f.next f.pieces inside i.solid)
 
+-- writes in a row keep what always holds
 pub fill-span : (k : ℕ) (f : FillOf) (place : ℕ) (last : LastWrite) → f.streak ≡ Some last →
     IsFill f →
     place + k ≤ length f.cells → Follows f.streak Forward place →
@@ -54,11 +55,13 @@ span-floor : (k : ℕ) (f : FillOf) (place : ℕ) → (fill_written_span k place
 span-floor zero f place = refl
 span-floor (suc k) f place = span-floor k (fill_written Forward place f) (place + 1)
 
+-- writes in a row take so many addresses
 pub span-next : (k : ℕ) (f : FillOf) (place : ℕ) → (fill_written_span k place f).next ≡ f.next + k
 span-next zero f place = omega arith
 span-next (suc k) f place = let h = span-next k (fill_written Forward place f) (place + 1) in
     omega (arith, h)
 
+-- in a streak that goes on, writes in a row add no seams
 pub span-seams : (k : ℕ) (f : FillOf) (place : ℕ) (last : LastWrite) → f.streak ≡ Some last →
     (fill_written_span k place f).seams ≡ f.seams
 span-seams zero f place last e = refl
@@ -114,6 +117,7 @@ span-as k f place next last streak pieces e i le fo en er ep =
     fill-as g (addresses pieces) f.floor next f.seams streak pieces d
     (sym (span-floor (suc k) f place)) a (sym (span-seams (suc k) f place last e)) b c
 
+-- writes in a row, as one record
 pub span-is : (k : ℕ) (f : FillOf) (place next : ℕ) (last : LastWrite) (streak : Option LastWrite)
     (pieces : List Piece) → 1 ≤ k → f.streak ≡ Some last → IsFill f → place + k ≤ length f.cells →
     Follows f.streak Forward place → next ≡ f.next + k →
@@ -153,6 +157,7 @@ going_on (Some last) k f place next streak pieces e on some i le fo en er ep = (
   fill-span k f place last e i le fo,
 )
 
+-- writes in a row where a streak goes on, as one record
 pub span-written : (k : ℕ) (f : FillOf) (place next : ℕ) (streak : Option LastWrite)
     (pieces : List Piece) → IsTrue (is_some f.streak) → 1 ≤ k → IsFill f →
         place + k ≤ length f.cells →
@@ -171,6 +176,7 @@ pub span-written : (k : ℕ) (f : FillOf) (place next : ℕ) (streak : Option La
 span-written k f place next streak pieces on some i le fo en er ep =
     (going_on f.streak k f place next streak pieces refl on some i le fo en er ep).0
 
+-- and what always holds of it
 pub span-holds : (k : ℕ) (f : FillOf) (place next : ℕ) (streak : Option LastWrite)
     (pieces : List Piece) → IsTrue (is_some f.streak) → 1 ≤ k → IsFill f →
         place + k ≤ length f.cells →
@@ -204,6 +210,7 @@ piece-cell r place k cells e lt =
 not-from : (floor a : ℕ) → a < floor → nat_le floor a ≡ false
 not-from floor a lt = grind (arith, lt)
 
+-- an old piece that goes backward has no fresh cell
 pub old-backward : (r : Piece) (place k floor : ℕ) (cells : List ℕ) →
     piece_addresses r ≡ take r.len (drop place cells) → r.backward ≡ true → r.start < floor →
     k < r.len → nat_le floor (get_or cells (place + k) 0) ≡ false
@@ -211,6 +218,7 @@ old-backward r place k floor cells e b lt n =
     let c : get_or cells (place + k) 0 ≡ r.start - k = rw b at (piece-cell r place k cells e n) in
     rw c (not-from floor (r.start - k) (omega (arith, lt)))
 
+-- an old piece that goes forward has none either, as far as it is below the floor
 pub old-forward : (r : Piece) (place k floor count : ℕ) (cells : List ℕ) →
     piece_addresses r ≡ take r.len (drop place cells) → r.backward ≡ false → count ≤ r.len →
     r.start + count ≤ floor → k < count → nat_le floor (get_or cells (place + k) 0) ≡ false
@@ -219,6 +227,7 @@ old-forward r place k floor count cells e b most le n =
     rw b at (piece-cell r place k cells e (omega (arith, most, n))) in
     rw c (not-from floor (r.start + k) (omega (arith, le, n)))
 
+-- a piece that goes forward holds addresses in a row
 pub fresh-row : (r : Piece) (place k : ℕ) (cells : List ℕ) →
     piece_addresses r ≡ take r.len (drop place cells) → r.backward ≡ false → k < r.len →
     get_or cells (place + k) 0 ≡ get_or cells place 0 + k
@@ -231,6 +240,7 @@ fresh-row r place k cells e b n =
     let f : get_or cells place 0 ≡ r.start = rw (z, y) at d in
     rw (c, f) refl
 
+-- a piece that begins at the floor or above begins with a fresh cell
 pub fresh-first : (r : Piece) (place floor : ℕ) (cells : List ℕ) →
     piece_addresses r ≡ take r.len (drop place cells) → r.backward ≡ false → 1 ≤ r.len →
     floor ≤ r.start → floor ≤ get_or cells place 0

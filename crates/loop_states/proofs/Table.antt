@@ -241,6 +241,7 @@ pub table_is : {A : Type 0} (verb : Verb) (round : Bool) (reach : ℕ) (l : Loop
     carry_all reach (moves_of verb round (face_of l)) l ≡ acts verb reach l
 table_is verb round reach l rounds_not = from_is verb l.deck.mode round reach l refl rounds_not
 
+-- the moves of a verb, carried out on a loop with this face, are the verb
 pub table_of : (verb : Verb) (round : Bool) (face : Face) (moves : List Move) (reach : ℕ)
     (l : Loop Sound) → moves ≡ moves_of verb round face → face_of l ≡ face →
     (l.controls.round == 0) ≡ not round → carry_all reach moves l ≡ acts verb reach l

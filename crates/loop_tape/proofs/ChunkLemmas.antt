@@ -6,6 +6,7 @@ use Rattle.std.proofs.lemmas.Map.Steps.{length-le_from_distinct_below}
 use Rattle.std.specs.List.{IsDistinct, list_any, AllByRecursion}
 use Rattle.loop_tape.specs.Pools.{AreDistinct, IsOutside}
 
+-- a list with one more behind
 pub length-last : (xs : List ℕ) (k : ℕ) → length (xs ++ k ∷ []) ≡ length xs + 1
 length-last xs k = length-append xs (k ∷ [])
 

@@ -73,6 +73,7 @@ given_chunk t t' p p' k o len some et el er ep =
       store = same;
     }
 
+-- one cut behind another is a cut
 pub cut_then : (t u v : TapeOf) (p q r : PoolOf) → length t.chunks ≡ (t.len + 4095) / 4096 →
     Cut t u p q → Cut u v q r → Cut t v p r
 cut_then t u v p q r size a b = record {
@@ -95,6 +96,7 @@ cut_then t u v p q r size a b = record {
   store = trans b.store a.store;
 }
 
+-- nothing cut is a cut
 pub cut_none : (t : TapeOf) (p : PoolOf) → Owns t p → Cut t t p p
 cut_none t p o = record {
   len = omega arith;
@@ -109,6 +111,7 @@ cut_none t p o = record {
   store = refl;
 }
 
+-- fewer frames of the same chunks are a cut
 pub cut_shorter : (t u : TapeOf) (p q : PoolOf) (n : ℕ) → Cut t u p q → n ≤ u.len →
     Cut t (record { chunks = u.chunks; len = n; room = u.room }) p q
 cut_shorter t u p q n a le = record {
@@ -129,6 +132,7 @@ cut_shorter t u p q n a le = record {
   store = a.store;
 }
 
+-- and so they are on another tape with these chunks
 pub cut_shorter_to : (t u v : TapeOf) (p q : PoolOf) → Cut t u p q → v.chunks ≡ u.chunks →
     v.room ≡ u.room → v.len ≤ u.len → Cut t v p q
 cut_shorter_to t u v p q a ec er le = let h = cut_shorter t u p q v.len a le in

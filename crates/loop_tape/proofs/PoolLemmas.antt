@@ -37,6 +37,7 @@ pub set-padded : (n : ℕ) (xs : List Sound) (i : ℕ) (x : Sound) → i < lengt
 set-padded n xs i x lt =
     rw (length-set xs i x) (set-append_left xs (replicate (n - length xs) silence) i x lt)
 
+-- a padded store is as long as asked
 pub length-padded : (n : ℕ) (xs : List Sound) → length xs ≤ n → length (padded n xs) ≡ n
 length-padded n xs le = let e = length-append xs (replicate (n - length xs) silence) in
     let f = length-replicate (n - length xs) silence in omega (arith, e, f, le)
@@ -61,6 +62,7 @@ drop-before zero xs ys le = refl
 drop-before (suc k) [] ys le = absurd (omega (arith, le))
 drop-before (suc k) (x ∷ xs) ys le = drop-before k xs ys (omega (arith, le))
 
+-- frames set in a padded store
 pub with_frames-padded : (n slot : ℕ) (ys xs : List Sound) → slot + length ys ≤ length xs →
     with_frames slot ys (padded n xs) ≡ padded n (with_frames slot ys xs)
 with_frames-padded n slot ys xs le =
@@ -86,6 +88,7 @@ with_frames-there slot k ys xs le lt =
     let z : slot + k - slot ≡ k = omega arith in
     rw (a, z) (get_or_append_left ys (drop (slot + length ys) xs) silence k lt)
 
+-- frames set leave those before them
 pub with_frames-before : (slot i : ℕ) (ys xs : List Sound) → i < slot → slot ≤ length xs →
     get_or (with_frames slot ys xs) i silence ≡ get_or xs i silence
 with_frames-before slot i ys xs lt le =
@@ -109,6 +112,7 @@ dropped-at (suc n) zero (x ∷ xs) le = absurd (omega (arith, le))
 dropped-at (suc n) (suc i) (x ∷ xs) le = let z : suc i - suc n ≡ i - n = omega arith in
     rw z (dropped-at n i xs (omega (arith, le)))
 
+-- and those behind them
 pub with_frames-behind : (slot i : ℕ) (ys xs : List Sound) → slot + length ys ≤ i →
     slot ≤ length xs → get_or (with_frames slot ys xs) i silence ≡ get_or xs i silence
 with_frames-behind slot i ys xs lt le =
@@ -143,10 +147,12 @@ padded-pushed n xs lt =
 
 -- free chunks
 
+-- so many numbers downward
 pub length-downward : (b n : ℕ) → length (downward b n) ≡ n
 length-downward b zero = refl
 length-downward b (suc n) = let h = length-downward b n in omega (arith, h)
 
+-- each of them by its index
 pub get_or-downward : (b n i : ℕ) → i < n → get_or (downward b n) i 0 + i + 1 ≡ b + n
 get_or-downward b zero i lt = absurd (omega (arith, lt))
 get_or-downward b (suc n) zero lt = omega arith
@@ -159,6 +165,7 @@ downward_first b zero = grind arith
 downward_first b (suc n) = let h = downward_first b n in let e : b + suc n ≡ suc b + n =
     omega arith in rw (h, e) refl
 
+-- how many chunks are free
 pub length-free : (b a : ℕ) (given : List ℕ) → length (free_of b a given) ≡ (a - b) + length given
 length-free b a given = let e = length-append (downward b (a - b)) given in
     let f = length-downward b (a - b) in omega (arith, e, f)
@@ -276,6 +283,7 @@ held_taken store given b a k h = record {
   short = h.short;
 }
 
+-- a chunk that was given back is taken again
 pub chunk_taken : (store : List Sound) (given : List ℕ) (b a k : ℕ) →
     HoldsPool store (given ++ k ∷ []) b a → (k < a) × IsOutside k (free_of b a given)
 chunk_taken store given b a k h = (
@@ -326,6 +334,7 @@ pub free_begins : (given given' : List ℕ) (b a : ℕ) → b ≤ a → b ≢ a 
 free_begins given given' b a le ne e e' = let n : b + 1 ≡ suc b = omega arith in
     rw (e, e', n) (free_begun b a (omega (arith, le, ne)))
 
+-- a chunk that is taken for the first time
 pub chunk_begun : (store : List Sound) (given given' : List ℕ) (b a : ℕ) →
     HoldsPool store given b a → b ≢ a → given ≡ [] → given' ≡ [] → (b < a)
     × IsOutside b (free_of (b + 1) a given')

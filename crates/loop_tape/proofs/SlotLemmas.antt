@@ -139,10 +139,12 @@ apart_more : (us ts : List ℕ) (k : ℕ) →
 apart_more us ts k apart far i j li lj e =
     grind (arith, apart i j, far i, length-last ts k, before_last ts k j, at_last ts k j)
 
+-- a tape's chunks and the free ones are no more than all
 pub room_left : (t : TapeOf) (p : PoolOf) → Owns t p → IsPool p →
     length t.chunks + length p.free ≤ p.all
 room_left t p o ip = length-both t.chunks p.free p.all o.once ip.once o.taken o.inside ip.inside
 
+-- where a chunk is free, the tape has room for it
 pub room_taken : (t : TapeOf) (p : PoolOf) (rest : List ℕ) (k : ℕ) → Owns t p → IsPool p →
     p.free ≡ rest ++ k ∷ [] → length t.chunks < t.room
 room_taken t p rest k o ip e = let h = room_left t p o ip in let g = o.fits in

@@ -25,6 +25,7 @@ clear_either g frame faces count fewer quantize W le (inl none) = inl none
 clear_either g frame faces count fewer quantize W le (inr clear) =
     inr (no_boundary_fewer g frame faces count fewer quantize le clear)
 
+-- what is clear for some frames is clear for fewer
 pub clear_fewer : (g : Globals) (frame : ℕ) (faces : List Face) (count fewer : ℕ) (t : Track) →
     fewer ≤ count → IsClearFor g frame faces count t → IsClearFor g frame faces fewer t
 clear_fewer g frame faces count fewer t le c =
@@ -35,6 +36,7 @@ clear_fewer g frame faces count fewer t le c =
           c.clear;
     }
 
+-- and so for all tracks
 pub clear_fewer_all : (g : Globals) (frame : ℕ) (faces : List Face) (count fewer : ℕ)
     (ts : List Track) → fewer ≤ count → AllByRecursion (IsClearFor g frame faces count) ts →
     AllByRecursion (IsClearFor g frame faces fewer) ts

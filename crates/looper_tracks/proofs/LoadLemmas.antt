@@ -65,6 +65,7 @@ new_apart : (chunks : ℕ) (ss : List StripSettings) → AreApart (map (new_trac
 new_apart chunks [] = tt
 new_apart chunks (s ∷ ss) = (new_beside chunks (new_track chunks s) ss, new_apart chunks ss)
 
+-- new tracks stand over any pool
 pub new_in : (chunks : ℕ) (ss : List StripSettings) (p : PoolOf) → p.all ≤ chunks →
     AreIn p (map (new_track chunks) ss)
 new_in chunks ss p fits = record { own = new_own chunks ss p fits; apart = new_apart chunks ss }
@@ -78,6 +79,7 @@ no_tapes : (ss : List StripSettings) → used (map tape_of (first_tracks ss []))
 no_tapes [] = refl
 no_tapes (s ∷ ss) = no_tapes ss
 
+-- there are no more lists than strips
 pub fewer_lists : (ss : List StripSettings) (lists : List (List Sound)) → AreLists ss lists →
     length lists ≤ length ss
 fewer_lists [] [] are = omega arith
@@ -119,6 +121,7 @@ both_true : (a b : Bool) → (a && b) ≡ true → (a ≡ true) × (b ≡ true)
 both_true true b h = (refl, h)
 both_true false b h = let off : ⊥ = cc in absurd off
 
+-- the list of an index is as its strip says
 pub list_at : (ss : List StripSettings) (lists : List (List Sound)) (k : ℕ) (ds : List Sound)
     (d : StripSettings) → are_strips ss ≡ true → AreLists ss lists → k < length lists →
     IsListOf (get_or ss k d) (get_or lists k ds)
@@ -181,6 +184,7 @@ pub record Loading (ss : List StripSettings) (lists : List (List Sound)) (chunks
   pub sum : all_in p ls ≡ all
   pub count : length ls ≡ length ss
 
+-- before any list is laid
 pub loading_none : (ss : List StripSettings) (lists : List (List Sound)) (room chunks : ℕ)
     (ls : List TrackOf) (p : PoolOf) → ls ≡ map (new_track room) ss → p.all ≤ room →
     free_in p ≡ chunks →
@@ -249,6 +253,7 @@ loading_more ss lists room chunks ls p p' k d l' ds s are less h did =
       count = simp length-set h.count;
     }
 
+-- once all are laid
 pub loading_all : (ss : List StripSettings) (lists : List (List Sound)) (room chunks : ℕ)
     (ls : List TrackOf) (p : PoolOf) (k : ℕ) → length lists ≤ k →
     Loading ss lists room chunks ls p k → HaveLoaded ss lists chunks ls p
@@ -267,6 +272,7 @@ unfolding seen
 loaded_track chunks s [] reach p some = absurd (omega arith)
 loaded_track chunks s (x ∷ xs) reach p some = refl
 
+-- a track that begins with its list
 pub track_begun : (chunks : ℕ) (s : StripSettings) (list : List Sound) (l l' : TrackOf)
     (p p' : PoolOf) → l ≡ new_track chunks s → 1 ≤ length list →
     DidTrack (on_loop (loads list s.cycle)) l l' p p' →
@@ -279,6 +285,7 @@ track_begun chunks s list l l' p p' is some did = record {
   others = did.others;
 }
 
+-- a track that begins with none
 pub track_without : (chunks : ℕ) (s : StripSettings) (list : List Sound) (l : TrackOf)
     (p : PoolOf) →
     MayLoad s list chunks l p → length list ≡ 0 → DidTrack (λ reach t. first_track list s) l l p p
@@ -296,6 +303,7 @@ cycles s list valid long some =
     in let cycle = cycle_of s.length s.cycle (omega arith) all.1
     in (cycle.0, omega (arith, cycle.1))
 
+-- a list as its strip says is short
 pub short : (s : StripSettings) (list : List Sound) → is_strip s ≡ true → s.length ≡ length list →
     length list ≤ max_list_frames
 short s list valid long =
@@ -332,6 +340,7 @@ pub may_as : (lists : List (List Sound)) (list shown : List Sound) (k : ℕ) (s 
 may_as lists list shown k s room l {p} is same may =
     subst (λ zs. MayLoad s zs room l p) (sym is ∙ sym same) may
 
+-- the same of the list of an index
 pub did_as : (lists : List (List Sound)) (list shown : List Sound) (k : ℕ) (s : StripSettings)
     (l l' : TrackOf) (p : PoolOf) {p' : PoolOf} → list ≡ get_or lists k list → shown ≡ list →
     DidTrack (λ reach t. first_track shown s) l l' p p' →
@@ -339,6 +348,7 @@ pub did_as : (lists : List (List Sound)) (list shown : List Sound) (k : ℕ) (s 
 did_as lists list shown k s l l' p {p'} is same did =
     subst (λ zs. DidTrack (λ reach t. first_track zs s) l l' p p') (same ∙ is) did
 
+-- the list of an index is short
 pub short_at : (ss : List StripSettings) (lists : List (List Sound)) (list : List Sound) (k n : ℕ) →
     are_strips ss ≡ true → AreLists ss lists → k < length lists → list ≡ get_or lists k list →
     n ≡ length list → n ≤ max_list_frames
@@ -353,5 +363,6 @@ short_at ss lists list k n valid are less is long =
 pub some_where : (b : Bool) (n : ℕ) → b ≡ (n == 0) → b ≡ false → 1 ≤ n
 some_where b n is isnt = grind (arith, is, isnt)
 
+-- a length that is 0
 pub none_where : (b : Bool) (n : ℕ) → b ≡ (n == 0) → b ≡ true → n ≡ 0
 none_where b n is isit = grind (arith, is, isit)

@@ -31,6 +31,7 @@ one_more P zero (x ∷ ls) l p less is all here = (subst (λ y. P (track_in p y)
 one_more P (suc k) (x ∷ ls) l p less is all here =
     (all.0, one_more P k ls l p (omega arith) is all.1 here)
 
+-- what holds of the tracks before an index, and of the one there
 pub all_more : (P : Track → Type 0) (k : ℕ) (ls : List TrackOf) (l : TrackOf) (p : PoolOf) →
     k < length ls → l ≡ get_or ls k l →
     AllByRecursion P (tracks_in p (take k ls)) → P (track_in p l) →
@@ -50,6 +51,7 @@ pinned_later k ls l p face less is seen_is isnt so_far =
     in so_far ∙ ap (λ us. any_pinned (tracks_in p us)) (opened ls k l less is)
     ∙ ap (λ b. b || any_pinned (tracks_in p (drop (k + 1) ls))) none
 
+-- a pin that is found
 pub pinned_here : (k : ℕ) (ls : List TrackOf) (l : TrackOf) (p : PoolOf) (face : Face) →
     k < length ls → l ≡ get_or ls k l → face ≡ face_of (seen l.strip p) → face.pinned ≡ true →
     any_pinned (tracks_in p ls) ≡ any_pinned (tracks_in p (drop k ls)) →
@@ -59,6 +61,7 @@ pinned_here k ls l p face less is seen_is isit so_far =
     in sym (so_far ∙ ap (λ us. any_pinned (tracks_in p us)) (opened ls k l less is)
     ∙ ap (λ b. b || any_pinned (tracks_in p (drop (k + 1) ls))) one)
 
+-- no pin is found
 pub pinned_none : (k : ℕ) (ls : List TrackOf) (p : PoolOf) → length ls ≤ k →
     any_pinned (tracks_in p ls) ≡ any_pinned (tracks_in p (drop k ls)) →
     false ≡ any_pinned (tracks_in p ls)
@@ -74,6 +77,7 @@ some_first : (o other : Option Asker) → is_some o ≡ true → asker_or o othe
 some_first None other isit = let off : ⊥ = cc in absurd off
 some_first (Some a) other isit = refl
 
+-- the track of an index has no session's asker
 pub runs_later : (k : ℕ) (ls : List TrackOf) (l : TrackOf) (p : PoolOf) (a : Option Asker)
     (b : Bool) → k < length ls → l ≡ get_or ls k l → a ≡ session_asker l.asker → b ≡ is_some a →
     b ≡ false →
@@ -84,6 +88,7 @@ runs_later k ls l p a b less is asks some isnt so_far =
     in so_far ∙ ap (λ us. running_session (tracks_in p us)) (opened ls k l less is)
     ∙ none_else (session_asker l.asker) (running_session (tracks_in p (drop (k + 1) ls))) none
 
+-- the track of an index has a session's asker
 pub runs_here : (k : ℕ) (ls : List TrackOf) (l : TrackOf) (p : PoolOf) (a : Option Asker)
     (b : Bool) →
     k < length ls → l ≡ get_or ls k l → a ≡ session_asker l.asker → b ≡ is_some a → b ≡ true →
@@ -95,6 +100,7 @@ runs_here k ls l p a b less is asks some isit so_far =
     ∙ sym (so_far ∙ ap (λ us. running_session (tracks_in p us)) (opened ls k l less is)
     ∙ some_first (session_asker l.asker) (running_session (tracks_in p (drop (k + 1) ls))) one)
 
+-- no track has one
 pub runs_none : (k : ℕ) (ls : List TrackOf) (p : PoolOf) → length ls ≤ k →
     running_session (tracks_in p ls) ≡ running_session (tracks_in p (drop k ls)) →
     None ≡ running_session (tracks_in p ls)

@@ -23,18 +23,22 @@ fewer_behind zero xs reach l q = tt
 fewer_behind (suc n) [] reach l q = tt
 fewer_behind (suc n) (x ∷ xs) reach l q = fewer_quiet n xs (frame_later x reach l) q
 
+-- fewer frames are as quiet
 pub fewer_for : (n : ℕ) (xs : List Sound) (t : Track) → IsQuietBehindFor xs t →
     IsQuietBehindFor (take n xs) t
 fewer_for n xs t q = record { quiet = λ reach. fewer_behind n xs reach t.loop (q.quiet reach) }
 
+-- and so for all tracks
 pub fewer_for_all : (n : ℕ) (xs : List Sound) (ts : List Track) →
     AllByRecursion (IsQuietBehindFor xs) ts → AllByRecursion (IsQuietBehindFor (take n xs)) ts
 fewer_for_all n xs [] all = tt
 fewer_for_all n xs (t ∷ ts) all = (fewer_for n xs t all.0, fewer_for_all n xs ts all.1)
 
+-- the fewer of two firsts
 pub take_least : {X : Type 0} (m n : ℕ) (xs : List X) → m ≤ n → take m (take n xs) ≡ take m xs
 take_least m n xs le = simp take-take (ap (λ k. take k xs) (omega arith))
 
+-- one track more is quiet for the fewest frames so far
 pub quiet_more : (n q m k : ℕ) (xs : List Sound) (ls : List TrackOf) (l : TrackOf) (p : PoolOf) →
     k < length ls → l ≡ get_or ls k l → m ≤ n → m ≤ q →
     AllByRecursion (IsQuietBehindFor (take n xs)) (tracks_in p (take k ls)) →

@@ -21,6 +21,7 @@ wet_stays : (x : Sound) (reach : ℕ) (l : Loop Sound) (wet : ℕ) → wet ≡ l
     wet ≡ (after x reach (ready x reach l)).controls.wet
 wet_stays x reach l wet is = is ∙ sym (ap (λ (c : Controls). c.wet) (frame_controls x reach l))
 
+-- a track over frames is its loop over them, and its gain
 pub track_played : (step wet reach : ℕ) (xs : List Sound) (t : Track) → wet ≡ t.loop.controls.wet →
     track_over step xs reach t
     ≡ record {
@@ -43,6 +44,7 @@ track_played step wet reach (x ∷ xs) t is =
       asker = t.asker;
     } in next) (sym is)
 
+-- what a track gives is what is heard of its loop, scaled by its gain
 pub track_gives : (step wet reach : ℕ) (xs : List Sound) (t : Track) → wet ≡ t.loop.controls.wet →
     given_over step xs reach t ≡ scaled_over wet step (heard_over xs reach t.loop) t.gain
 track_gives step wet reach [] t is = refl
@@ -85,6 +87,7 @@ track_did_play step wet xs heard s s' g g' a p p' l is wets did heard_is gain_is
     (λ m. DidTrack (track_over step xs) m (record { strip = s'; gain = g'; asker = a }) p p') is
     now
 
+-- what is heard of a strip, added to sums
 pub track_did_give :
     (step wet : ℕ) (xs heard before after : List Sound) (s : StripOf) (g : ℕ) (a : Option Asker)
     (p : PoolOf) (l : TrackOf) →
@@ -153,6 +156,7 @@ pub track_pinned :
 track_pinned asker s s' g a l is did =
     track_asked (λ reach m. with_stack (pinned m.stack) m) (Some asker) s s' g a l is did
 
+-- a track freed
 pub track_freed :
     (s s' : StripOf) (g : ℕ) (a : Option Asker) (l : TrackOf) →
     record { strip = s; gain = g; asker = a } ≡ l →
@@ -187,6 +191,7 @@ track_left : (ended : Option Asker → Option Asker) (l : TrackOf) → is_some (
 track_left ended l isnt p owns =
     did_nothing _ l p owns (left_where (ended l.asker) (track_in p l) isnt)
 
+-- a pin taken away where it is of this kind
 pub released_as :
     (ended : Option Asker → Option Asker) (s : StripOf) (g : ℕ) (a o : Option Asker) (b : Bool)
     (l l' : TrackOf) → record { strip = s; gain = g; asker = a } ≡ l → o ≡ ended a →
@@ -197,6 +202,7 @@ released_as ended s g a o b l l' is asks some isit did =
     track_released ended l l' (ap (λ (u : TrackOf). is_some (ended u.asker)) (sym is)
     ∙ ap is_some (sym asks) ∙ sym some ∙ isit) did
 
+-- and left where it is not
 pub left_as :
     (ended : Option Asker → Option Asker) (s : StripOf) (g : ℕ) (a o : Option Asker) (b : Bool)
     (l : TrackOf) → record { strip = s; gain = g; asker = a } ≡ l → o ≡ ended a → b ≡ is_some o →

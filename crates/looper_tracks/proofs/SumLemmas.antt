@@ -12,6 +12,7 @@ use Rattle.looper_rules.specs.GainSpans.{added, added_all}
 use Rattle.looper_tracks.proofs.TrackLemmas.{turned}
 use Rattle.looper_tracks.proofs.SweepLemmas.{Sweeping, sweeping_more, sweeping_none}
 
+-- so many tracks were played and added
 pub record Summing (step : ℕ) (xs : List Sound) (ls0 : List TrackOf) (p0 : PoolOf)
     (sums0 : List Sound) (ls : List TrackOf) (p : PoolOf) (sums : List Sound) (k : ℕ) : Type 0 where
   pub sweep : Sweeping (track_over step xs) ls0 p0 ls p k
@@ -42,6 +43,7 @@ sum_turn step xs ts k free free' t t' sums sums' whole less here is reach more s
     (sym left)
     in rw same (sym now ∙ so_far)
 
+-- one track more
 pub summing_more :
     (step : ℕ) (xs : List Sound) (ls0 : List TrackOf) (p0 : PoolOf) (sums0 : List Sound)
     (ls : List TrackOf) (p : PoolOf) (sums : List Sound) (k : ℕ) (l l' : TrackOf) (p' : PoolOf)
@@ -68,6 +70,7 @@ summing_more step xs ls0 p0 sums0 ls p sums k l l' p' sums' h within is did more
       long = long ∙ h.long;
     }
 
+-- and so of the track of an index
 pub summing_at :
     (step : ℕ) (xs : List Sound) (ls0 : List TrackOf) (p0 : PoolOf) (sums0 : List Sound)
     (ls : List TrackOf) (p : PoolOf) (sums : List Sound) (k : ℕ) (d l' : TrackOf) (p' : PoolOf)

@@ -47,10 +47,12 @@ next_drop (suc k) (x ∷ xs) = next_drop k xs
 drop_next : {X : Type 0} (k : ℕ) (xs : List X) → drop (k + 1) xs ≡ drop 1 (drop k xs)
 drop_next k xs = let at : k + 1 ≡ suc k = omega arith in ap (λ n. drop n xs) at ∙ next_drop k xs
 
+-- the same rest, one further on
 pub rest_on : {X : Type 0} (ts ts0 : List X) (k : ℕ) → drop k ts ≡ drop k ts0 →
     drop (k + 1) ts ≡ drop (k + 1) ts0
 rest_on ts ts0 k same = drop_next k ts ∙ ap (drop 1) same ∙ sym (drop_next k ts0)
 
+-- one track more of a sweep
 pub sweeping_more :
     (act : ℕ → Track → Track) (ls0 : List TrackOf) (p0 : PoolOf) (ls : List TrackOf) (p : PoolOf)
     (k : ℕ) (l l' : TrackOf) (p' : PoolOf) →
@@ -75,6 +77,7 @@ sweeping_more act ls0 p0 ls p k l l' p' h within is did =
       count = simp length-set h.count;
     }
 
+-- and so of the track of an index
 pub sweeping_at :
     (act : ℕ → Track → Track) (ls0 : List TrackOf) (p0 : PoolOf) (ls : List TrackOf) (p : PoolOf)
     (k : ℕ) (d l' : TrackOf) (p' : PoolOf) →
@@ -95,11 +98,13 @@ sweeping_alone act ls0 ls p k d l' h within did =
     let less : k < length ls = (let same = h.count in omega arith)
     in sweeping_at act ls0 p ls p k d l' p h within (did p (owned ls k d p h.inside less))
 
+-- before any
 pub sweeping_none : (act : ℕ → Track → Track) (ls : List TrackOf) (p : PoolOf) → AreIn p ls →
     Sweeping act ls p ls p 0
 sweeping_none act ls p inside =
     record { tracks = refl; rest = refl; inside = inside; chunks = refl; count = refl }
 
+-- once all were swept
 pub sweeping_all : (act : ℕ → Track → Track) (ls0 : List TrackOf) (p0 : PoolOf) (ls : List TrackOf)
     (p : PoolOf) (k : ℕ) → Sweeping act ls0 p0 ls p k → length ls0 ≤ k →
     DidAll (swept itself act) ls0 ls p0 p
@@ -132,6 +137,7 @@ at_index_past act free (u ∷ us) zero past = absurd (omega arith)
 at_index_past act free (u ∷ us) (suc k) past =
     ap (λ vs. u ∷ vs) (at_index_past act free us k (omega arith))
 
+-- something done to one track
 pub one_done : (act : ℕ → Track → Track) (ls : List TrackOf) (k : ℕ) (l l' : TrackOf)
     (p p' : PoolOf) → k < length ls → l ≡ get_or ls k l → AreIn p ls → DidTrack act l l' p p' →
     DidAll (at_index k act) ls (set ls k l') p p'
@@ -146,6 +152,7 @@ one_done act ls k l l' p p' less is inside did =
       count = simp length-set;
     }
 
+-- nothing is done behind the last
 pub none_done : (act : ℕ → Track → Track) (ls : List TrackOf) (k : ℕ) (p : PoolOf) → length ls ≤ k →
     AreIn p ls → DidAll (at_index k act) ls ls p p
 none_done act ls k p past inside =
@@ -158,6 +165,7 @@ none_done act ls k p past inside =
       count = refl;
     }
 
+-- something done to the track of an index
 pub one_at : (act : ℕ → Track → Track) (ls : List TrackOf) (k : ℕ) (d l' : TrackOf)
     (p p' : PoolOf) →
     k < length ls → AreIn p ls → DidTrack act (get_or ls k d) l' p p' →
@@ -166,6 +174,7 @@ one_at act ls k d l' p p' less inside did =
     one_done act ls k (get_or ls k d) l' p p' less (get_or_default ls k d (get_or ls k d) less)
     inside did
 
+-- the same of a call that takes no pool
 pub one_alone : (act : ℕ → Track → Track) (ls : List TrackOf) (k : ℕ) (d l' : TrackOf)
     (p : PoolOf) →
     k < length ls → AreIn p ls → DidTrackAlone act (get_or ls k d) l' →
@@ -180,6 +189,7 @@ swept_map f free [] = refl
 swept_map f free (t ∷ ts) =
     ap (λ us. f t ∷ us) (swept_map f (reach_of free t - chunks_of (tape_of (f t))) ts)
 
+-- what takes no chunk does the same with any in reach
 pub at_index_any : (f : Track → Track) (k free other : ℕ) (ts : List Track) →
     at_index k (λ reach t. f t) free ts ≡ at_index k (λ reach t. f t) other ts
 at_index_any f k free other [] = refl

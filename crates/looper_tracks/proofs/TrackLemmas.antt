@@ -33,6 +33,7 @@ beside_one : {s s' : StripOf} {p p' : PoolOf} (u : TrackOf) → OthersStay s s' 
     Apart u.strip s → StaysBeside s' p p' u.strip
 beside_one u others owns apart = others u.strip (record { owns = owns; apart = apart })
 
+-- a track that stays beside is seen as before
 pub same_track : {s : StripOf} {p p' : PoolOf} (u : TrackOf) → StaysBeside s p p' u.strip →
     track_in p' u ≡ track_in p u
 same_track {p = p} {p' = p'} u stays =
@@ -117,6 +118,7 @@ pub record Turned (act : ℕ → Track → Track) (ls : List TrackOf) (k : ℕ) 
       ≡ reach_in l.strip p
   pub here : track_in p l ≡ get_or (tracks_in p ls) k (track_in p l)
 
+-- one track changed, for all of them
 pub turned : (act : ℕ → Track → Track) (ls : List TrackOf) (k : ℕ) (l l' : TrackOf)
     (p p' : PoolOf) →
     k < length ls → l ≡ get_or ls k l → AreIn p ls → DidTrack act l l' p p' →
@@ -144,11 +146,13 @@ turned act ls k l l' p p' less is inside did =
 pub others_as_before : (s : StripOf) (p : PoolOf) → OthersStay s s p p
 others_as_before s p = λ u beside. record { beside = beside; same = refl }
 
+-- nothing was done
 pub did_nothing : (act : ℕ → Track → Track) (l : TrackOf) (p : PoolOf) → Owns l.strip p →
     act (reach_in l.strip p) (track_in p l) ≡ track_in p l → DidTrack act l l p p
 did_nothing act l p owns same =
     record { track = sym same; owns = owns; reach = refl; others = others_as_before l.strip p }
 
+-- the track of an index owns its chunks
 pub owned : (ls : List TrackOf) (k : ℕ) (d : TrackOf) (p : PoolOf) → AreIn p ls → k < length ls →
     Owns (get_or ls k d).strip p
 owned ls k d p inside less = let own : OwnsTrack p (get_or ls k d) =

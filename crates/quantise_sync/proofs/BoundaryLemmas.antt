@@ -161,6 +161,7 @@ pub boundary_before : (n : ℕ) (source : ℤ) (quantize pulse frame : ℕ) (fac
 boundary_before n source quantize pulse frame faces left waits is below =
     or_from _ _ waits (source_before n source quantize pulse frame faces left is below)
 
+-- so many frames on, there is a boundary
 pub boundary_reached : (n : ℕ) (source : ℤ) (quantize pulse frame : ℕ) (faces : List Face) →
     frames_to_boundary source quantize pulse frame faces ≡ Some n →
     AllByRecursion IsPlacedWhereRunning faces →

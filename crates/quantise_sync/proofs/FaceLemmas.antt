@@ -209,6 +209,7 @@ frames_up-suc unit at = cond-false _ _ _ (ne_eqb (suc unit) 0 (λ is. omega arit
 some_is : (m n : ℕ) → Some m ≡ Some n → m ≡ n
 some_is m n is = cc
 
+-- frames up to a unit, from a place that is at none
 pub rising : (unit at frames : ℕ) → (at % unit == 0) ≡ false →
     frames_up unit at ≡ Some (suc frames) → Rising unit at frames
 rising zero at frames isnt left = cc
@@ -223,6 +224,7 @@ rising (suc unit) at frames isnt left =
           ≡ frames = omega arith in less);
     }
 
+-- only a unit of 0 is never reached
 pub never_rises : (unit at : ℕ) → frames_up unit at ≡ None → unit ≡ 0
 never_rises zero at never = refl
 never_rises (suc unit) at never = let some = frames_up-suc unit at in cc
@@ -455,16 +457,19 @@ isnt_at_unit : (quantize : ℕ) (face : Face) (left : Option ℕ) → Left quant
 isnt_at_unit quantize face left h = or_from (not (is_running face.mode))
     (face.pos % unit_of quantize face == 0) (not_from_true (is_running face.mode) h.runs) h.isnt
 
+-- a face that has frames to go is at no unit
 pub not_now : (quantize : ℕ) (face : Face) (left : Option ℕ) → frames_to_unit quantize face ≡ left →
     (left ≡ Some 0 → ⊥) → source_at_unit quantize (Some face) ≡ false
 not_now quantize face left is some =
     isnt_at_unit quantize face left (left_of quantize face left is some)
 
+-- a frame later there is one frame less to go
 pub one_frame_less : (quantize frames : ℕ) (face : Face) →
     frames_to_unit quantize face ≡ Some (suc frames) → OneLess quantize (face_later face) frames
 one_frame_less quantize frames face is = less_in face.mode quantize frames face
     (left_of quantize face (Some (suc frames)) is (λ none. cc))
 
+-- what never comes never comes a frame later
 pub never_comes : (quantize : ℕ) (face : Face) → frames_to_unit quantize face ≡ None →
     frames_to_unit quantize (face_later face) ≡ None
 never_comes quantize face is =
@@ -556,6 +561,7 @@ at_unit_by true false quantize face runs is placed left =
     in absurd (has_some face.mode quantize face
     (record { runs = runs; placed = here; isnt = is; is = now }))
 
+-- a face with no frame to go is at a unit
 pub at_unit : (quantize : ℕ) (face : Face) → frames_to_unit quantize face ≡ Some 0 →
     IsPlacedWhereRunning face → source_at_unit quantize (Some face) ≡ true
 at_unit quantize face left placed =

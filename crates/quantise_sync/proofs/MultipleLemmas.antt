@@ -31,6 +31,7 @@ next_by unit at (inr most) =
     in let is : at % suc unit + 1 ≡ suc unit = omega arith
     in comes_round is (mod-round unit at is)
 
+-- the next multiple of a unit
 pub next : (unit at : ℕ) → Next (suc unit) at
 next unit at = next_by unit at (cases_lt (at % suc unit + 1) (suc unit))
 
@@ -42,6 +43,7 @@ unless false frames = frames
 unless-multiple : (unit at frames : ℕ) → at % unit ≡ 0 → unless (at % unit == 0) frames ≡ 0
 unless-multiple unit at frames is = ap (λ b. unless b frames) (eq-eqb (at % unit) 0 is)
 
+-- a place that is at no multiple
 pub unless-other : (unit at frames : ℕ) → (at % unit ≡ 0 → ⊥) →
     unless (at % unit == 0) frames ≡ frames
 unless-other unit at frames isnt = ap (λ b. unless b frames) (ne_eqb (at % unit) 0 isnt)
@@ -58,6 +60,7 @@ up_by unit at isnt (comes_round most is) =
     let step = unless-multiple (suc unit) (at + 1) (suc unit - (at + 1) % suc unit) is
     in omega arith
 
+-- one place on, there is one frame less up to the multiple
 pub up_later : (unit at : ℕ) → (at % suc unit == 0) ≡ false →
     unless ((at + 1) % suc unit == 0) (suc unit - (at + 1) % suc unit) + 1 ≡ suc unit - at
     % suc unit
@@ -84,6 +87,7 @@ forward_by unit at length inside isnt (comes_round most is) =
     in let now = frames_forward-suc unit at length
     in omega arith
 
+-- one place on, there is one frame less to a unit or the border
 pub forward_later :
     (unit at length : ℕ) → at + 1 < length → (at % unit == 0) ≡ false →
     unless ((at + 1) % unit == 0) (frames_forward unit (at + 1) length) + 1 ≡ frames_forward unit at
@@ -110,6 +114,7 @@ backward_by : (unit at : ℕ) → ((at + 1) % suc unit ≡ 0 → ⊥) → Next (
 backward_by unit at isnt (rises less is) = sym is
 backward_by unit at isnt (comes_round most is) = absurd (isnt is)
 
+-- one place down, there is one frame less to the multiple below
 pub backward_later : (unit at : ℕ) → ((at + 1) % unit == 0) ≡ false →
     at % unit + 1 ≡ (at + 1) % unit
 backward_later zero at isnt = let now = mod-zero at in let then_ = mod-zero (at + 1) in omega arith

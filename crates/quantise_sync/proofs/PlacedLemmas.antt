@@ -34,5 +34,6 @@ placed_in WaitStart l h runs = cc
 placed_in Recording l h runs = cc
 placed_in Paused l h runs = cc
 
+-- the face of a loop is placed where it is running
 pub loop_is_placed : {A : Type 0} (l : Loop A) → IsLoop l → IsPlacedWhereRunning (face_of l)
 loop_is_placed l h runs = placed_in l.deck.mode l h.in_mode runs

@@ -56,10 +56,12 @@ redo-more : (ps : List Piece) (ms : List Mark) (k : ℕ) → k < length ms →
     map (kept ps) (drop k ms) ≡ kept ps (get_or ms k none) ∷ map (kept ps) (drop (suc k) ms)
 redo-more ps ms k lt = rw (drop-at k ms none lt) refl
 
+-- one layer fewer is an undo
 pub undone-at : (ps : List Piece) (ms : List Mark) (n k : ℕ) → n ≡ suc k → k < length ms →
     layers_at ps ms k ≡ layers_undone (layers_at ps ms n)
 undone-at ps ms n k e lt = rw (e, layers-more ps ms k lt, redo-more ps ms k lt) refl
 
+-- one layer more is a redo
 pub redone-at : (ps : List Piece) (ms : List Mark) (n k : ℕ) → n ≡ suc k → k < length ms →
     layers_at ps ms n ≡ layers_redone (layers_at ps ms k)
 redone-at ps ms n k e lt = rw (e, layers-more ps ms k lt, redo-more ps ms k lt) refl
@@ -90,6 +92,7 @@ seams-parts zero ms = omega arith
 seams-parts (suc n) [] = omega arith
 seams-parts (suc n) (m ∷ ms) = let h = seams-parts n ms in omega (arith, h)
 
+-- the seams of layers and redo layers are those of all marks
 pub total-stack : (ps : List Piece) (ms : List Mark) (n : ℕ) →
     total_seams (reverse (map (kept ps) (take n ms))) + total_seams (map (kept ps) (drop n ms))
     ≡ seams_in ms
@@ -121,6 +124,7 @@ laid-inside from to (m ∷ ms) l = (
   laid-inside (from + m.count) to ms l.1.1,
 )
 
+-- the pieces of a mark end within those laid
 pub laid-at : (from to k : ℕ) (ms : List Mark) (d : Mark) → k < length ms → Laid from to ms →
     (get_or ms k d).start + (get_or ms k d).count ≤ to
 laid-at from to k [] d lt l = grind arith
@@ -129,6 +133,7 @@ laid-at from to zero (m ∷ ms) d lt l = let h = laid-order (from + m.count) to 
 laid-at from to (suc k) (m ∷ ms) d lt l =
     laid-at (from + m.count) to k ms d (omega (arith, lt)) l.1.1
 
+-- a mark has at most as many pieces as seams
 pub laid-few : (from to k : ℕ) (ms : List Mark) (d : Mark) → k < length ms → Laid from to ms →
     (get_or ms k d).count ≤ (get_or ms k d).seams
 laid-few from to k [] d lt l = grind arith
@@ -200,6 +205,7 @@ drop-take-none zero xs = refl
 drop-take-none (suc n) [] = refl
 drop-take-none (suc n) (x ∷ xs) = drop-take-none n xs
 
+-- so many marks are so many layers
 pub length-layers : (ps : List Piece) (ms : List Mark) (n : ℕ) → n ≤ length ms →
     length (reverse (map (kept ps) (take n ms))) ≡ n
 length-layers ps ms n le =
@@ -231,6 +237,7 @@ kept-at ps ms k from to d lt l =
       take-mapped (range ps) (suc k) ms,
     ) refl
 
+-- the redo layers dropped
 pub kept-all : (ps ps' : List Piece) (ms ms' : List Mark) (n b from to : ℕ) (m : Mark) → n ≢ 0 →
     n ≤ length ms → m ≡ get_or ms (n - 1) m → Laid from to ms → b ≡ m.start + m.count →
     ps' ≡ take b ps → ms' ≡ take n ms → layers_at ps' ms' n ≡ layers_kept (layers_at ps ms n)
@@ -241,6 +248,7 @@ kept-all ps ps' ms ms' (suc k) b from to m ne le em l eb ep es =
     let c : b ≡ (get_or ms k m).start + (get_or ms k m).count = rw (sym g) eb in
     rw (ep, es, c) (kept-at ps ms k from to m (omega (arith, le)) l)
 
+-- fewer marks have fewer seams
 pub seams-cut : (n : ℕ) (ms : List Mark) → seams_in (take n ms) ≤ seams_in ms
 seams-cut n ms = let h = seams-parts n ms in omega (arith, h)
 
@@ -250,6 +258,7 @@ all-take P zero xs a = tt
 all-take P (suc n) [] a = tt
 all-take P (suc n) (x ∷ xs) a = (a.0, all-take P n xs a.1)
 
+-- the first pieces have none that is empty
 pub solid-take : (n : ℕ) (ps : List Piece) → Solid ps → Solid (take n ps)
 solid-take n ps s = all-take (λ p. 1 ≤ p.len) n ps s
 
@@ -258,6 +267,7 @@ solid-drop zero ps s = s
 solid-drop (suc n) [] s = tt
 solid-drop (suc n) (p ∷ ps) s = solid-drop n ps s.1
 
+-- nor have some in the middle
 pub solid-range : (s c : ℕ) (ps : List Piece) → Solid ps → Solid (take c (drop s ps))
 solid-range s c ps h = solid-take c (drop s ps) (solid-drop s ps h)
 
@@ -296,6 +306,7 @@ holds-cut ps ms k d h =
           (all-measured ps (suc k) ms h.measured);
     }
 
+-- what always holds, with the redo layers dropped
 pub holds-cut-at : (ps ps' : List Piece) (ms ms' : List Mark) (n b : ℕ) (m : Mark) → n ≢ 0 →
     m ≡ get_or ms (n - 1) m → AreRanges ps ms n → b ≡ m.start + m.count → ps' ≡ take b ps →
     ms' ≡ take n ms → AreRanges ps' ms' n
@@ -342,6 +353,7 @@ drop-all (suc n) (x ∷ xs) le = drop-all n xs (omega (arith, le))
 range-last : (ps qs : List Piece) → take (length qs) (drop (length ps) (ps ++ qs)) ≡ qs
 range-last ps qs = rw (drop-append_seam ps qs) (take-all (length qs) qs (omega arith))
 
+-- one layer more fits
 pub room-added : (ps : List Piece) (ms : List Mark) (n seams : ℕ) (redo : List (Layer ℕ)) →
     AreRanges ps ms n → redo ≡ map (kept ps) (drop n ms) → redo ≡ [] →
     total_seams (reverse (map (kept ps) (take n ms))) + seams ≤ max_seams →
@@ -352,6 +364,7 @@ room-added ps ms n seams redo h er en le =
     let w = laid-within 0 (length ps) ms h.laid in
     (omega (arith, t, z, w, le), omega (arith, t, z, le))
 
+-- one layer more on top
 pub added-at : (ps ps' qs : List Piece) (ms ms' : List Mark) (n : ℕ) (m : Mark) →
     AreRanges ps ms n → map (kept ps) (drop n ms) ≡ [] → m.start ≡ length ps → m.count ≡ length qs →
     ps' ≡ ps ++ qs → ms' ≡ ms ++ m ∷ [] →
@@ -376,6 +389,7 @@ added-at ps ps' qs ms ms' n m h none es ec ep em =
       r,
     ) refl
 
+-- what always holds, with one layer more
 pub holds-added : (ps ps' qs : List Piece) (ms ms' : List Mark) (n : ℕ) (m : Mark) →
     AreRanges ps ms n → map (kept ps) (drop n ms) ≡ [] → m.start ≡ length ps → m.count ≡ length qs →
     m.count ≤ m.seams → seams_in ms + m.seams ≤ max_seams → n < max_layers → Solid qs →
@@ -419,6 +433,7 @@ current-seams-of ps ms k d lt =
       reverse-append (map (kept ps) (take k ms)) (kept ps (get_or ms k d) ∷ []),
     ) refl
 
+-- the pieces of the current layer stand for its list
 pub current-range : (ps : List Piece) (ms : List Mark) (n c : ℕ) (m : Mark) → n ≢ 0 →
     n ≤ length ms → m ≡ get_or ms (n - 1) m → c ≡ m.count →
     addresses (take c (drop m.start ps)) ≡ current_list (reverse (map (kept ps) (take n ms)))
@@ -433,6 +448,7 @@ length-take-most zero xs = omega arith
 length-take-most (suc k) [] = omega arith
 length-take-most (suc k) (x ∷ xs) = let h = length-take-most k xs in omega (arith, h)
 
+-- they are at most as many as its seams
 pub current-few : (ps : List Piece) (ms : List Mark) (n c : ℕ) (m : Mark) → n ≢ 0 →
     AreRanges ps ms n → m ≡ get_or ms (n - 1) m → c ≡ m.count →
     length (take c (drop m.start ps)) ≤ current_seams (reverse (map (kept ps) (take n ms)))
@@ -458,6 +474,7 @@ pub layer-value : (ps : List Piece) (ms : List Mark) (k c : ℕ) (m : Mark) → 
     m ≡ get_or ms k m → c ≡ m.count → take c (drop m.start ps) ≡ get_or (map (range ps) ms) k []
 layer-value ps ms k c m lt e ec = rw (get-mapped ps ms k m lt e, ec) refl
 
+-- they are the newest
 pub current-value : (ps : List Piece) (ms : List Mark) (n c : ℕ) (m : Mark) → n ≢ 0 →
     n ≤ length ms → m ≡ get_or ms (n - 1) m → c ≡ m.count → take c (drop m.start ps) ≡ newest_pieces
     (reverse (map (kept ps) (take n ms))) (map (range ps) ms)
@@ -475,6 +492,7 @@ measured-at ps [] k m lt e a = grind arith
 measured-at ps (x ∷ ms) zero m lt e a = let g : m ≡ x = e in rw g a.0
 measured-at ps (x ∷ ms) (suc k) m lt e a = measured-at ps ms k m (omega (arith, lt)) e a.1
 
+-- the current layer's length is its list's, and within bounds
 pub current-measured : (ps : List Piece) (ms : List Mark) (n : ℕ) (m : Mark) → n ≢ 0 →
     AreRanges ps ms n → m ≡ get_or ms (n - 1) m →
     (m.length ≡ length (current_list (reverse (map (kept ps) (take n ms)))))
@@ -487,11 +505,13 @@ current-measured ps ms (suc k) m ne h em =
     let a = measured-at ps ms k m lt g h.measured in
     (rw (current-of ps ms k m lt, sym g) a.0, a.1)
 
+-- the length alone
 pub current-length : (ps : List Piece) (ms : List Mark) (n : ℕ) (m : Mark) → n ≢ 0 →
     AreRanges ps ms n → m ≡ get_or ms (n - 1) m →
     m.length ≡ length (current_list (reverse (map (kept ps) (take n ms))))
 current-length ps ms n m ne h em = (current-measured ps ms n m ne h em).0
 
+-- the bound alone
 pub current-short : (ps : List Piece) (ms : List Mark) (n : ℕ) (m : Mark) → n ≢ 0 →
     AreRanges ps ms n → m ≡ get_or ms (n - 1) m → m.length ≤ max_list_frames
 current-short ps ms n m ne h em = (current-measured ps ms n m ne h em).1
@@ -512,10 +532,12 @@ pub short-total : (ps : List Piece) → length (addresses ps) ≤ max_list_frame
     total ps < 4294967296
 short-total ps le = let n = length-addresses ps in omega (arith, n, le)
 
+-- the length of a list is that of its pieces
 pub total-current : (n : ℕ) (ps : List Piece) (xs : List ℕ) → n ≡ length xs → addresses ps ≡ xs →
     n ≡ total ps
 total-current n ps xs e f = let k = length-addresses ps in rw (e, sym f) k
 
+-- a place of a list is one of its pieces
 pub place-current : (place : ℕ) (ps : List Piece) (xs : List ℕ) → place ≤ length xs →
     addresses ps ≡ xs → place ≤ total ps
 place-current place ps xs le f = let k = length-addresses ps in
@@ -535,6 +557,7 @@ marks-room ps ms n le e lt =
     let b = drop-none n ms (map-none ps (drop n ms) e) in
     omega (arith, a, b, lt)
 
+-- the front is a right hint
 pub hint-front-at : (ps : List Piece) (i begin : ℕ) → i ≡ 0 → begin ≡ 0 → IsHint ps i begin
 hint-front-at ps i begin e f = rw (e, f) (hint-front ps)
 
@@ -572,6 +595,7 @@ all-reverse P (x ∷ xs) a =
     let e : reverse (x ∷ xs) ≡ reverse xs ++ x ∷ [] = reverse-append (x ∷ []) xs in
     rw e (all-append P (reverse xs) (x ∷ []) (all-reverse P xs a.1) (a.0, tt))
 
+-- each layer is made of its pieces
 pub pieced-layers : (ps : List Piece) (ms : List Mark) (n : ℕ) → AreRanges ps ms n →
     AllByRecursion IsPieced (reverse (map (kept ps) (take n ms)))
 pieced-layers ps ms n h =
@@ -579,6 +603,7 @@ pieced-layers ps ms n h =
     (pieced-all ps (take n ms) h.solid
     (all-take (λ m. m.count ≤ m.seams) n ms (laid-all-few 0 (length ps) ms h.laid)))
 
+-- and so is each redo layer
 pub pieced-redo : (ps : List Piece) (ms : List Mark) (n : ℕ) → AreRanges ps ms n →
     AllByRecursion IsPieced (map (kept ps) (drop n ms))
 pieced-redo ps ms n h = pieced-all ps (drop n ms) h.solid

@@ -17,6 +17,7 @@ first_count [] lists = refl
 first_count (s ∷ ss) [] = ap suc (first_count ss [])
 first_count (s ∷ ss) (list ∷ lists) = ap suc (first_count ss lists)
 
+-- a new looper is within its bounds
 pub new_is_within_bounds :
     (rate : ℕ) (g : Globals) (strips shown : List StripSettings) (lists : List (List Sound))
     (chunks room : ℕ) (t : TracksOf) →

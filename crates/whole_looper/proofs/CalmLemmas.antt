@@ -26,6 +26,7 @@ span_of_none frame xs l quiet none = record {
   calm = λ x rest is. (calm_where_none_waits frame (x ∷ rest) l none).1;
 }
 
+-- frames that are quiet, while no waiting verb acts, are a span
 pub span_in_time : (frame count : ℕ) (xs : List Sound) (l : Looper) → length xs ≤ count + 1 →
     AllByRecursion (IsQuietBehindFor xs) l.tracks →
     KeepsTime l.globals.sync_source (faces_of l) →
@@ -65,6 +66,7 @@ span_as_none frame xs rate g dry saves t l is quiet none =
     subst (λ m. IsSpan frame xs m) is
     (span_of_none frame xs (looper_of rate g dry saves t) quiet none)
 
+-- and so they are, as far as was told by the faces
 pub span_as_timed : (frame calm n : ℕ) (faces : List Face) (input : List Sound) (rate : ℕ)
     (g : Globals) (dry saves : ℕ) (t : TracksOf) (l : Looper) → looper_of rate g dry saves t ≡ l →
     faces ≡ map face_on t.tracks → n ≤ length (take calm input) →

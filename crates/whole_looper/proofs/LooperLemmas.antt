@@ -37,6 +37,7 @@ with_tracks : (rate : ℕ) (g : Globals) (dry saves chunks chunks' : ℕ) (ts ts
     ≡ looper_of rate g dry saves (record { chunks = chunks; tracks = ts })
 with_tracks rate g dry saves chunks chunks' ts ts' a b = cc
 
+-- what was done to the tracks of a looper
 pub tracks_did : (f : ℕ → List Track → List Track) (rate : ℕ) (g : Globals) (dry saves : ℕ)
     (t t' : TracksOf) (l : Looper) → looper_of rate g dry saves t ≡ l → DidTracks f t t' →
     looper_of rate g dry saves t' ≡ record l { tracks = f (free_among t) t.tracks }
@@ -83,6 +84,7 @@ released_did k rate g dry saves t t' l is did =
     ∙ ap (λ ts. looper_of rate g dry saves (record { chunks = t.chunks; tracks = ts }))
     (at_index_any loop_released k (free_among t) 0 t.tracks))
 
+-- the pins of a session's save taken away, as a looper's release
 pub all_released_did :
     (rate : ℕ) (g : Globals) (dry saves : ℕ) (t t' : TracksOf) (l : Looper) →
     looper_of rate g dry saves t ≡ l →
@@ -106,6 +108,7 @@ free_where (Some t) none = unpinned_where t none
         by_pin true e h = let off : ⊥ = cc in absurd off
         by_pin false e h = refl
 
+-- a save that is not refused finds no pin
 pub free_at : (k : ℕ) (ts : List Track) → option_and_then save_refusal (slice_get ts k) ≡ None →
     IsFreeAt k ts
 free_at k ts none = free_where (slice_get ts k) none
@@ -122,6 +125,7 @@ refusal_is target n rate g dry saves t l is at =
     option_and_then save_refusal
     (slice_get m.tracks (index_of target l.globals.selected_loop_num))) is
 
+-- a save of a loop, as the rules have it
 pub loop_saved :
     (target : Target) (asker : Asker) (o : Option ℕ) (n rate : ℕ) (g : Globals) (dry saves : ℕ)
     (t t' : TracksOf) (l : Looper) → looper_of rate g dry saves t ≡ l →
@@ -137,6 +141,7 @@ loop_saved target asker o n rate g dry saves t t' l is at answer none did =
     ∙ ap (λ k. with_save_of k asker l) at
     ∙ ap (λ r. saves_loop r (index_of target l.globals.selected_loop_num) asker l) (sym refusal)
 
+-- a save whose loop has no refusal is not refused
 pub loop_unrefused :
     (target : Target) (o : Option ℕ) (n rate : ℕ) (g : Globals) (dry saves : ℕ) (t : TracksOf)
     (l : Looper) → looper_of rate g dry saves t ≡ l →
@@ -167,6 +172,7 @@ made_of None f (Some x) there = refl
 made_of None f None there = let off : ⊥ = cc in absurd off
 made_of (Some a) f o there = refl
 
+-- a save of a loop is made where it is not refused
 pub loop_made : (command : Command) (target : Target) (name : List ℕ) (made : Bool) (l : Looper) →
     command ≡ SaveLoop target name → made ≡ not (is_some (refusal_at target l)) →
     is_some (track_of target l) ≡ true → made ≡ is_some (save_of command l)
@@ -178,6 +184,7 @@ made_always : (r : Option ℕ) (s : Save) → not (is_some r) ≡ is_some (unles
 made_always None s = refl
 made_always (Some a) s = refl
 
+-- a save of the session is made where it is not refused
 pub session_made : (command : Command) (name : List ℕ) (made : Bool) (l : Looper) →
     command ≡ SaveSession name → made ≡ not (is_some (session_refusal l.tracks)) →
     made ≡ is_some (save_of command l)
@@ -246,6 +253,7 @@ of_loop_fixed Pulse h = tt
 of_loop_fixed SyncSource h = let off : ⊥ = cc in absurd off
 of_loop_fixed SelectedLoopNum h = let off : ⊥ = cc in absurd off
 
+-- a control of loops that is set has a value in its range
 pub set_range : (command : Command) (target : Target) (control : Control) (value v : ℤ)
     (loops : ℕ) → command ≡ Set target control value → is_allowed loops command ≡ true → v ≡ value →
     is_in_range control v 0 ≡ true

@@ -26,6 +26,7 @@ same_looper :
     ≡ looper_of rate g dry' saves (record { chunks = chunks'; tracks = ts' })
 same_looper rate g saves chunks chunks' dry dry' ts ts' a b c = cc
 
+-- cleared sums, what all tracks give and the input, clamped, are a span
 pub span_done :
     (g : Globals) (xs out none sums : List Sound) (dry dry' : ℕ) (t t' : TracksOf) →
     none ≡ replicate (length xs) silence →
@@ -51,6 +52,7 @@ span_done g xs out none sums dry dry' t t' empty did all gain outs =
       count = did.count;
     }
 
+-- a span of the parts is a span of the looper
 pub span_of_looper :
     (rate : ℕ) (g : Globals) (dry dry' saves : ℕ) (xs out : List Sound) (t t' : TracksOf)
     (l : Looper) → looper_of rate g dry saves t ≡ l → DidSpan g xs out dry dry' t t' →
