@@ -3,8 +3,8 @@
 //!
 //! ```text
 //! benches engine KIND LOOPS PERIOD TIMES     a frame of a loop in the engine, for bench/engine.sh
-//! benches strip KIND RUNS SPAN TIMES         a frame of one loop, for bench/strip.sh
-//! benches layers KIND FRAMES RUNS TIMES      layers on a shared tape, for bench/layers.sh
+//! benches strip KIND STREAKS SPAN TIMES      a frame of one loop, for bench/strip.sh
+//! benches layers KIND FRAMES STREAKS TIMES   layers on a shared tape, for bench/layers.sh
 //! benches rings KIND THREADS COUNT CAPACITY  numbers through a ring, for bench/rings.sh
 //! benches messages KIND COUNT                messages from outside, for bench/messages.sh
 //! ```
@@ -34,22 +34,43 @@ fn done(rt: &HostRuntime, words: &[String]) -> Option<bool> {
         "engine" => engine::timed(rt, words).map(|_| true),
         "strip" => strip::timed(rt, words).map(|_| true),
         "layers" => layers::timed(rt, words).map(|_| true),
-        "rings" => rings::passed(rt, rt.alloc(), words),
         "messages" => messages::passed(rt.alloc(), words).ok(),
         _ => Some(true),
     }
 }
 
-fn words(rt: &HostRuntime) -> io::Result<Vec<String>> {
+/// The first word is that of the rings, which want a runtime that waits: `main` alone has it.
+fn is_of_rings(words: &[String]) -> bool {
+    match words.first() {
+        Some(part) => part.as_str() == "rings",
+        None => false,
+    }
+}
+
+/// The words behind the first.
+fn behind_first(words: &[String]) -> &[String] {
+    match words {
+        [_, rest @ ..] => rest,
+        _ => words,
+    }
+}
+
+/// The words of the command line, but for the program's name.
+fn words_of(rt: &HostRuntime) -> io::Result<Vec<String>> {
     Ok(env::args(rt)?.skip(1).collect(rt.alloc())?)
 }
 
 fn main(rt: HostRuntime) -> ExitCode {
-    let words = match words(&rt) {
+    let words = match words_of(&rt) {
         Ok(words) => words,
         Err(_) => return ExitCode::from(8),
     };
-    match done(&rt, &words) {
+    let done = if is_of_rings(&words) {
+        rings::passed(&rt, rt.alloc(), behind_first(&words))
+    } else {
+        done(&rt, &words)
+    };
+    match done {
         Some(true) => ExitCode::from(0),
         Some(false) => ExitCode::from(1),
         None => ExitCode::from(8),

@@ -129,7 +129,7 @@ fn is_bound(alloc: Global, text: &[u8], count: u64) -> bool {
 }
 
 /// Does what the words say, and tells whether all was read as it has to be.
-fn passed(alloc: Global, words: &[String]) -> Result<bool, AllocError> {
+pub fn passed(alloc: Global, words: &[String]) -> Result<bool, AllocError> {
     let [kind, count] = words else {
         return Ok(true);
     };
