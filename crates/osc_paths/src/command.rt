@@ -264,6 +264,9 @@ fn answered(message: &Message, loops: u8, from: Addr) -> Result<Request, PathFau
 /// What a message from somewhere asks for, where there are so many loops, or the first fault in
 /// their order. It takes no memory.
 pub fn command_of(message: &Message, loops: u8, from: Addr) -> Result<Request, PathFault>
+    // The answer is that of reading from left to right.
+    ensures value { result ≡ answered loops from message.now }
+
     // What is given is asked for so.
     ensures found { IfOk result (IsRequest loops from message.now) }
 

@@ -59,6 +59,7 @@ impl ReturnPath {
     pub fn as_bytes(&self) -> &[u8]
         ensures value { result.now ≡ self.now }
         ensures within { IsTrue (is_return_path self.now) }
+        ensures plain { IsTrue (has_no_zero self.now) }
     {
         self.bytes.as_slice()
     }
