@@ -21,12 +21,12 @@ use Rattle.engine_steps.specs.Engines.{EngineOf, Beginning, first_looper, first_
 use Rattle.engine_steps.specs.InStep.{IsInStep, nothing}
 use Rattle.engine_steps.proofs.ReachedLemmas.{saves_counted}
 use Rattle.journal_run.specs.Clipping.{all_clipped}
-use Rattle.journal_run.specs.Inputs.{InputOf, span_of}
-use Rattle.journal_run.specs.Feeding.{StopsAt}
+use Rattle.wav_pcm.specs.Inputs.{InputOf, span_of}
+use Rattle.save_feeding.specs.Feeding.{StopsAt}
 use Rattle.whole_looper.specs.Loopers.{refused_in}
 use Rattle.journal_run.specs.RunTexts.{reply_lines, numbers_line, run_text}
-use Rattle.journal_run.specs.declared.feeding.Stopped.{Stopped}
-use Rattle.journal_run.specs.declared.feeding.Stopped.TheVariants.{NoMemory}
+use Rattle.save_feeding.specs.declared.stopped.Stopped.{Stopped}
+use Rattle.save_feeding.specs.declared.stopped.Stopped.TheVariants.{Memory as NoMemory}
 use Rattle.journal_run.specs.Performing.{HasRoomFor, IsFirst, IsPlayable, HasCome, EndsRun, head_of, played_before, ran_over, saved_by}
 use Rattle.journal_run.proofs.ClipLemmas.{run-clipped}
 use Rattle.journal_run.proofs.PlayLemmas.{come_frames}

@@ -1,6 +1,4 @@
 pub mod ClipLemmas
-pub mod InputLemmas
-pub mod FeedLemmas
 pub mod PlayLemmas
 pub mod TakeLemmas
 pub mod TurnLemmas

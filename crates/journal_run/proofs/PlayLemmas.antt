@@ -29,14 +29,14 @@ use Rattle.engine_steps.specs.Engines.{EngineOf, Beginning, first_looper, entry_
 use Rattle.engine_steps.specs.InStep.{SoFar, IsInStep, with_taken, with_frames}
 use Rattle.engine_steps.proofs.StepLemmas.{went_on_in_step, went_on-append, put_out-append}
 use Rattle.journal_run.specs.Clipping.{clipped, all_clipped}
-use Rattle.journal_run.specs.Inputs.{InputOf, span_of}
-use Rattle.journal_run.specs.Feeding.{SentOn, StopsAt}
+use Rattle.wav_pcm.specs.Inputs.{InputOf, span_of}
+use Rattle.save_feeding.specs.Feeding.{SentOn, StopsAt}
 use Rattle.journal_run.specs.Performing.{HasRoomFor, HasCome, head_of, played_before, ran_over}
 use Rattle.journal_run.specs.RunTexts.{reply_line, reply_lines}
-use Rattle.journal_run.specs.declared.feeding.Stopped.{Stopped}
-use Rattle.journal_run.specs.declared.feeding.Stopped.TheVariants.{Writing, NoMemory}
+use Rattle.save_feeding.specs.declared.stopped.Stopped.{Stopped}
+use Rattle.save_feeding.specs.declared.stopped.Stopped.TheVariants.{Writing, Memory as NoMemory}
 use Rattle.journal_run.proofs.ClipLemmas.{run-clipped}
-use Rattle.journal_run.proofs.InputLemmas.{span_more}
+use Rattle.wav_pcm.proofs.InputLemmas.{span_more}
 
 -- more replies are more lines
 reply_lines-append : (rs more : List Reply) →

@@ -17,7 +17,8 @@ use Rattle.engine_steps.specs.Engines.{EngineOf, Beginning, ClearsSent, left, to
 use Rattle.engine_steps.specs.InStep.{SoFar, IsInStep, IsPart, with_taken}
 use Rattle.engine_steps.proofs.ClearLemmas.{nothing_left_clears}
 use Rattle.engine_steps.proofs.StepLemmas.{took_in_step}
-use Rattle.journal_run.specs.Feeding.{MayEnd, IsSomehowInStep}
+use Rattle.loop_saver.specs.Coming.{MayEnd}
+use Rattle.save_feeding.specs.Feeding.{IsSomehowInStep}
 
 -- an engine that has no block left is sending nothing
 no_save : (saves : List Save) (part : ℕ) → IsPart saves part →

@@ -15,11 +15,11 @@ use Rattle.loop_saver.proofs.AcceptLemmas.{writes_all, writes_before}
 use Rattle.engine_steps.specs.Engines.{EngineOf, Beginning, first_looper, entry_of, took}
 use Rattle.engine_steps.specs.InStep.{with_taken}
 use Rattle.journal_run.specs.Clipping.{all_clipped}
-use Rattle.journal_run.specs.Inputs.{InputOf}
-use Rattle.journal_run.specs.Feeding.{StopsAt, IsSomehowInStep}
+use Rattle.wav_pcm.specs.Inputs.{InputOf}
+use Rattle.save_feeding.specs.Feeding.{StopsAt, IsSomehowInStep}
 use Rattle.journal_run.specs.Performing.{HasCome, IsPlayable, played_before, ran_over}
-use Rattle.journal_run.specs.declared.feeding.Stopped.{Stopped}
-use Rattle.journal_run.specs.declared.feeding.Stopped.TheVariants.{NoMemory}
+use Rattle.save_feeding.specs.declared.stopped.Stopped.{Stopped}
+use Rattle.save_feeding.specs.declared.stopped.Stopped.TheVariants.{Memory as NoMemory}
 use Rattle.journal_run.proofs.TakeLemmas.{may_take, taken_in_step}
 use Rattle.journal_run.proofs.PlayLemmas.{files_for_all-append, first_saves, all_later, stamped_entries, frames_played, played_before-push, stops_before, stops_in}
 

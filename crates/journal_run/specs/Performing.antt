@@ -20,12 +20,12 @@ use Rattle.loop_saver.specs.Accepting.{Writes}
 use Rattle.engine_steps.specs.Engines.{EngineOf, Beginning, first_engine, first_looper, left}
 use Rattle.engine_steps.specs.InStep.{SoFar, IsInStep}
 use Rattle.journal_run.specs.Clipping.{all_clipped}
-use Rattle.journal_run.specs.Feeding.{StopsAt}
-use Rattle.journal_run.specs.Inputs.{InputOf}
+use Rattle.save_feeding.specs.Feeding.{StopsAt}
+use Rattle.wav_pcm.specs.Inputs.{InputOf}
 use Rattle.journal_run.specs.RunTexts.{reply_lines, run_text}
 use Rattle.journal_run.specs.declared.ending.Performed.{Performed}
 use Rattle.std.specs.String.{string_bytes}
-use Rattle.journal_run.specs.declared.feeding.Stopped.{Stopped}
+use Rattle.save_feeding.specs.declared.stopped.Stopped.{Stopped}
 
 -- an engine before all frames and entries
 pub record IsFirst (e : EngineOf) : Type 0 where

@@ -8,23 +8,22 @@ ghost use Rattle.sl_commands.specs.Settings.{is_rate};
 ghost use Rattle.wav_pcm.specs.WavText.{samples, samples_size, padding};
 ghost use Rattle.engine_steps.specs.Engines.{Beginning, first_looper, went_on, put_out};
 ghost use Rattle.journal_run.specs.Performing.{head_of, HasRoomFor, IsFirst, IsPlayable, HasCome, IsComing, EndsRun, Performs};
-ghost use Rattle.journal_run.specs.Inputs.{span_of};
+ghost use Rattle.wav_pcm.specs.Inputs.{span_of};
 ghost use Rattle.whole_looper.specs.Loopers.{refused_in};
 ghost use Rattle.journal_run.specs.RunTexts.{numbers_line};
-ghost use Rattle.journal_run.specs.declared.feeding.Stopped.TheVariants.{NoMemory};
+ghost use Rattle.save_feeding.specs.declared.stopped.Stopped.TheVariants.{Memory as NoMemory};
 
 use crate::entries::{Run, turns};
-use crate::feeding::Stopped;
-use crate::input::Input;
 use crate::playing::play_to;
 use crate::texts::write_numbers;
 use loop_saver::Saver;
 use looper_engine::Engine;
+use save_feeding::Stopped;
 use sl_base::Frame;
 use sl_commands::Entry;
 use sl_ports::Keeper;
 use std::alloc::Global;
-use wav_pcm::write_header;
+use wav_pcm::{Input, write_header};
 
 /// What a run gives beside the files of its saves: OUT's bytes, and the text that tells of it.
 #[derive(Drop)]
@@ -58,13 +57,9 @@ fn begin_out(alloc: Global, input: &Input) -> Result<Vec<u8>, Stopped>
         input.bits(),
         input.rate(),
     );
-    let Ok(mut out) = Vec::with_capacity(alloc, 44 + size + size % 2) else {
-        return Err(Stopped::NoMemory);
-    };
-    match out.extend_from_slice(&head) {
-        Ok(()) => Ok(out),
-        Err(_) => Err(Stopped::NoMemory),
-    }
+    let mut out = Vec::with_capacity(alloc, 44 + size + size % 2)?;
+    out.extend_from_slice(&head)?;
+    Ok(out)
 }
 
 /// Puts a zero byte behind samples of an odd size.
@@ -72,13 +67,10 @@ fn end_out(out: &mut Vec<u8>, size: usize) -> Result<(), Stopped>
     ensures ok { OnOk result (out.new.items ≡ out.old.items ++ padding size) }
     ensures memory { IfErr result (λ why. why ≡ NoMemory) }
 {
-    if size % 2 == 0 {
-        return Ok(());
+    if size % 2 != 0 {
+        out.push(0)?;
     }
-    match out.push(0) {
-        Ok(()) => Ok(()),
-        Err(_) => Err(Stopped::NoMemory),
-    }
+    Ok(())
 }
 
 /// Plays the frames behind the last entry, and puts the pad and the numbers at the end.
@@ -121,17 +113,15 @@ fn finish(
         bytes,
     )?;
     end_out(&mut run.out, size_of(input))?;
-    match write_numbers(
+    write_numbers(
         &mut run.text,
         input.len(),
         entries,
         run.replies,
         run.engine.saves(),
         run.engine.refused(),
-    ) {
-        Ok(()) => Ok(()),
-        Err(_) => Err(Stopped::NoMemory),
-    }
+    )?;
+    Ok(())
 }
 
 /// Plays all entries and all frames, of a run before them.
@@ -191,15 +181,9 @@ pub fn perform<P: Keeper>(
 {
     let out = begin_out(alloc, input)?;
     let size = period as usize * (input.channels() as usize * (input.bits() as usize / 8));
-    let Ok(mut frames) = vec![in alloc; Frame::silence(); period as usize] else {
-        return Err(Stopped::NoMemory);
-    };
-    let Ok(mut heard) = vec![in alloc; Frame::silence(); period as usize] else {
-        return Err(Stopped::NoMemory);
-    };
-    let Ok(mut bytes) = vec![in alloc; 0u8; size] else {
-        return Err(Stopped::NoMemory);
-    };
+    let mut frames = vec![in alloc; Frame::silence(); period as usize]?;
+    let mut heard = vec![in alloc; Frame::silence(); period as usize]?;
+    let mut bytes = vec![in alloc; 0u8; size]?;
     let mut run = Run {
         engine,
         saver: Saver::new(rate),

@@ -9,20 +9,20 @@ ghost use Rattle.frame_stamp.specs.Journals.{HasRoom};
 ghost use Rattle.loop_saver.specs.SavedFiles.{files_for_all};
 ghost use Rattle.engine_steps.specs.Engines.{Beginning, entry_of, left};
 ghost use Rattle.engine_steps.specs.InStep.{SoFar, IsInStep, with_taken};
-ghost use Rattle.journal_run.specs.Feeding.{IsSomehowInStep, SentOn, WritesAll};
+ghost use Rattle.save_feeding.specs.Feeding.{IsSomehowInStep, SentOn, WritesAll};
 ghost use Rattle.journal_run.specs.RunTexts.{reply_lines};
 ghost use Rattle.journal_run.specs.Performing.{IsPlayable, HasCome, IsComing, ComesOrStops, played_before};
 
-use crate::feeding::{Stopped, feed};
-use crate::input::Input;
 use crate::playing::play_to;
 use crate::texts::write_answer;
 use loop_saver::Saver;
 use looper_engine::Engine;
+use save_feeding::{Stopped, feed};
 use sl_base::Frame;
 use sl_commands::{Entry, Reply};
 use sl_ports::Keeper;
 use std::alloc::Global;
+use wav_pcm::Input;
 
 /// What goes on in a run: the engine, the saver, OUT as far as it was heard, and what was told, and
 /// in how many replies.
@@ -88,9 +88,7 @@ fn take_entry<P: Keeper>(
     let _done = engine.frames_done();
     let answer = engine.take(entry.sender, entry.command.duplicate());
     *replies += count_of(&answer);
-    if write_answer(text, answer).is_err() {
-        return Err(Stopped::NoMemory);
-    }
+    write_answer(text, answer)?;
     feed(alloc, keeper, engine, saver)
 }
 

@@ -9,15 +9,14 @@
 //! - An `Input` is a WAV file whose frames are read a span after another. OUT's samples are made so
 //!   too. So a run holds IN's bytes, OUT's bytes, a period of frames, and the engine.
 //!
-//! Begin with `starting`, then `ending`, `entries` and `feeding`; `playing` plays frames, `texts`
+//! Begin with `starting`, then `ending` and `entries`; `playing` plays frames, `texts`
 //! writes lines. The rules are "The run" and "Saves" in docs/rules.md, and "Files of a save" and
 //! "The console" in docs/formats.md.
 #![tactic(auto)]
 
 mod ending;
 mod entries;
-mod feeding;
-mod input;
+mod laws;
 mod playing;
 mod quota;
 mod starting;
@@ -26,7 +25,6 @@ mod tests;
 mod texts;
 
 pub use ending::{Performed, perform};
-pub use feeding::Stopped;
-pub use input::Input;
+pub use laws::a_run_is_as_long_as_its_input;
 pub use quota::quota_of;
-pub use starting::{PlayFault, play};
+pub use starting::play;

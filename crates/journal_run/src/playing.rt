@@ -4,25 +4,13 @@ ghost use Rattle.std.specs.Prelude.{◌≡◌, ◌≤◌, ◌+◌, ◌-◌, ◌+
 ghost use Rattle.sl_base.specs.Limits.{max_session_frames};
 ghost use Rattle.wav_pcm.specs.WavText.{samples, samples_size};
 ghost use Rattle.engine_steps.specs.Engines.{went_on, put_out};
-ghost use Rattle.journal_run.specs.Inputs.{span_of};
-ghost use Rattle.journal_run.specs.declared.feeding.Stopped.TheVariants.{NoMemory};
+ghost use Rattle.wav_pcm.specs.Inputs.{span_of};
+ghost use Rattle.save_feeding.specs.declared.stopped.Stopped.TheVariants.{Memory as NoMemory};
 
-use crate::feeding::Stopped;
-use crate::input::Input;
 use looper_engine::Engine;
+use save_feeding::Stopped;
 use sl_base::Frame;
-use wav_pcm::write_samples;
-
-/// Puts bytes at the end, or leaves them as they were where memory is wanted.
-fn push(out: &mut Vec<u8>, bytes: &[u8]) -> Result<(), Stopped>
-    ensures ok { OnOk result (out.new.items ≡ out.old.items ++ bytes.now) }
-    ensures memory { IfErr result (λ why. why ≡ NoMemory) }
-{
-    match out.extend_from_slice(bytes) {
-        Ok(()) => Ok(()),
-        Err(_) => Err(Stopped::NoMemory),
-    }
-}
+use wav_pcm::{Input, write_samples};
 
 /// Plays as many frames as `frames` has, from a place on, and puts the samples that are heard at
 /// the end of `out`. The buffers are written over.
@@ -50,7 +38,8 @@ fn play_span(
     input.read(from, frames);
     engine.frames(frames, heard);
     write_samples(bytes, heard, input.channels(), input.bits());
-    push(out, bytes)
+    out.extend_from_slice(bytes)?;
+    Ok(())
 }
 
 /// Plays the frames from one place up to another, at most as many at a time as `frames` has.

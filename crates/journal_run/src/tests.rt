@@ -5,11 +5,13 @@ ghost use Rattle.sl_base.specs.Limits.{max_period};
 
 use super::*;
 use journal_text::read_journal;
+use save_feeding::Stopped;
 use sl_base::{MAX_FILE_FRAMES, Name};
 use sl_commands::{Initial, Settings};
 use sl_ports::MemKeeper;
 use std::alloc::Global;
 use std::test::Fail;
+use wav_pcm::Input;
 
 /// The samples 1 2 3 4 and ten zeros, in one channel of 16 bits at 48000 frames a second.
 const PHRASE: &[u8] =
@@ -44,7 +46,7 @@ fn played(
     alloc: Global,
     keeper: &mut MemKeeper,
     period: u32,
-) -> Result<Result<Performed, PlayFault>, Fail>
+) -> Result<Result<Performed, Stopped>, Fail>
     requires some { 1 ≤ period }
     requires within { period ≤ max_period }
 {
@@ -97,7 +99,7 @@ fn a_phrase_is_saved_while_it_plays_whatever_the_period(rt: HostRuntime) -> Resu
 fn a_failing_write_of_a_save_ends_the_run(rt: HostRuntime) -> Result<(), Fail> {
     let mut keeper = keeper(rt.alloc(), &[1])?;
     let ended = played(rt.alloc(), &mut keeper, 64)?;
-    assert!(rt; matches!(ended, Err(PlayFault::Writing)));
+    assert!(rt; matches!(ended, Err(Stopped::Writing)));
     assert!(rt; keeper.file(&name("take.wav")?).is_none());
     Ok(())
 }

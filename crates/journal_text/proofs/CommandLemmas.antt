@@ -1,6 +1,6 @@
 -- The words of commands.
 use Rattle.std.proofs.Common.{◌≡◌, ◌&&◌, ℕ, ◌≤◌, true, List, [], ◌∷◌, refl, sym, ap, ◌∙◌, subst, arith, leb}
-use Rattle.std.specs.Prelude.{ℤ, IsTrue, codes, not, Some, length}
+use Rattle.std.specs.Prelude.{ℤ, IsTrue, IfNone, codes, not, Option, Some, None, length}
 use Rattle.std.specs.List.{AllByRecursion, list_any}
 use Rattle.std.specs.Fmt.{decimal, signed_decimal}
 use Rattle.std.specs.Str.{bytes_eq}
@@ -22,13 +22,32 @@ use Rattle.text_lines.specs.Shapes.{is_some}
 use Rattle.text_lines.proofs.NumeralLemmas.{decimal_has_form}
 use Rattle.text_lines.proofs.WordLemmas.{decimal_is_word, signed_is_word, name_is_word, printed_is_word, signed_has_form, signed_is_one}
 use Rattle.text_lines.specs.Targets.{target_word}
-use Rattle.journal_text.specs.JournalLines.{command_words, HasWords, have_form, command_forms}
+use Rattle.text_lines.specs.Presses.{SpellPress}
+use Rattle.journal_text.specs.JournalLines.{command_words, HasWords, Spell, have_form, command_forms}
 use Rattle.text_lines.proofs.TargetLemmas.{target_comes_back, target_is_short}
 use Rattle.text_lines.proofs.TableLemmas.{verb_is_one, control_is_one, verb_name_is_word, control_name_is_word, verb_name_is_some, control_name_is_some, in_range_is_short, short_has_few_digits}
 
 -- what is there is one
 some_is_one : {A : Type 0} {a b : A} → Some a ≡ Some b → a ≡ b
 some_is_one same = Prim.cc
+
+-- the words of a press are those of its command
+pub press_is_spelled : (words : List (List ℕ)) (command : Command) → SpellPress words command →
+    Spell words command
+press_is_spelled words (Down target verb) is = is
+press_is_spelled words (Up target verb) is = is
+press_is_spelled words (Hit target verb) is = is
+press_is_spelled words _ is = absurd (false≢true is.1)
+
+-- words that are no press spell no press
+pub not_pressed : (words : List (List ℕ)) (o : Option Command) (give : Target → Verb → Command) →
+    ((target : Target) (verb : Verb) → Spell words (give target verb) →
+    SpellPress words (give target verb)) →
+    IfNone o ((command : Command) → ¬ SpellPress words command) →
+    IfNone o ((target : Target) (verb : Verb) → ¬ Spell words (give target verb))
+not_pressed words (Some command) give is none = tt
+not_pressed words None give is none = λ target verb spelled.
+    none (give target verb) (is target verb spelled)
 
 -- one of the loops is one of 256
 single_is_target : (loops : ℕ) (target : Target) → loops ≤ 256 →

@@ -10,40 +10,21 @@ ghost use Rattle.sl_commands.specs.declared.control.Control.{Control};
 ghost use Rattle.journal_text.specs.JournalLines.{Spell};
 
 use sl_base::Name;
-use sl_commands::{Command, control_of, verb_of};
-use text_lines::{behind, number_of, read_integer, target_of};
+use sl_commands::{Command, control_of};
+use text_lines::{behind, number_of, press_of, read_integer, target_of};
 
-fn down_of(words: &[&[u8]]) -> Option<Command>
+/// The verb that words give to a loop.
+#[tactic(auto, using(crate::proofs::CommandLemmas::press_is_spelled))]
+fn give_of(words: &[&[u8]]) -> Option<Command>
     ensures found { IfSome result (λ command. Spell (map (λ w. w.now) words.now) command) }
-    ensures only { IfNone result ((target : Target) (verb : Verb) →
+    ensures down { IfNone result ((target : Target) (verb : Verb) →
         ¬ Spell (map (λ w. w.now) words.now) (Command.Down target verb)) }
-{
-    match behind(words, b"down")? {
-        [target, verb] => Some(Command::Down(target_of(target)?, verb_of(verb)?)),
-        _ => None,
-    }
-}
-
-fn up_of(words: &[&[u8]]) -> Option<Command>
-    ensures found { IfSome result (λ command. Spell (map (λ w. w.now) words.now) command) }
-    ensures only { IfNone result ((target : Target) (verb : Verb) →
+    ensures up { IfNone result ((target : Target) (verb : Verb) →
         ¬ Spell (map (λ w. w.now) words.now) (Command.Up target verb)) }
-{
-    match behind(words, b"up")? {
-        [target, verb] => Some(Command::Up(target_of(target)?, verb_of(verb)?)),
-        _ => None,
-    }
-}
-
-fn hit_of(words: &[&[u8]]) -> Option<Command>
-    ensures found { IfSome result (λ command. Spell (map (λ w. w.now) words.now) command) }
-    ensures only { IfNone result ((target : Target) (verb : Verb) →
+    ensures hit { IfNone result ((target : Target) (verb : Verb) →
         ¬ Spell (map (λ w. w.now) words.now) (Command.Hit target verb)) }
 {
-    match behind(words, b"hit")? {
-        [target, verb] => Some(Command::Hit(target_of(target)?, verb_of(verb)?)),
-        _ => None,
-    }
+    press_of(words)
 }
 
 fn set_of(words: &[&[u8]]) -> Option<Command>
@@ -147,13 +128,7 @@ pub fn command_of(words: &[&[u8]]) -> Option<Command>
     ensures only { IfNone result
         ((command : Command) → ¬ Spell (map (λ w. w.now) words.now) command) }
 {
-    if let Some(command) = down_of(words) {
-        return Some(command);
-    }
-    if let Some(command) = up_of(words) {
-        return Some(command);
-    }
-    if let Some(command) = hit_of(words) {
+    if let Some(command) = give_of(words) {
         return Some(command);
     }
     if let Some(command) = set_of(words) {

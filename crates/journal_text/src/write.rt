@@ -150,8 +150,6 @@ fn write_journal(alloc: Global, entries: &[Entry]) -> Result<String, AllocError>
 pub fn journal_text(alloc: Global, entries: &[Entry]) -> Result<Vec<u8>, Memory>
     ensures { IfOk result (λ text. text.items ≡ journal_text entries.now) }
 {
-    match write_journal(alloc, entries) {
-        Ok(text) => Ok(text.into_bytes()),
-        Err(_) => Err(Memory),
-    }
+    let text = write_journal(alloc, entries)?;
+    Ok(text.into_bytes())
 }

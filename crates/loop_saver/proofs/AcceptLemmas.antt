@@ -11,7 +11,7 @@ use Rattle.sl_ports.specs.declared.keepers.Keeper.{Ghosts as Keeper}
 use Rattle.loop_saver.specs.declared.ending.Ending.{Ending}
 use Rattle.loop_saver.specs.declared.ending.Ending.TheVariants.{Written, Failed, Memory}
 use Rattle.loop_saver.specs.SavedFiles.{SavedFile, put_all, list_file}
-use Rattle.loop_saver.specs.Accepting.{WritesFirst, Writes, GoesOn, MayWant}
+use Rattle.loop_saver.specs.Accepting.{WritesFirst, StopsWriting, Writes, GoesOn, MayWant}
 
 -- the file of a list that isn't empty
 pub some_list :
@@ -59,6 +59,40 @@ writes_behind fs gs old mid new all w = record {
   files = w.files ∙ ap (put_all w.written) all ∙ sym (put_all-append fs w.written old);
 }
 
+-- the same where one file is left
+pub stops_before : (fs gs : List SavedFile) (old new : Option Files) → StopsWriting fs old new →
+    StopsWriting (fs ++ gs) old new
+stops_before fs gs old new w = record {
+  written = w.written;
+  next = w.next;
+  rest = w.rest ++ gs;
+  whole = ap (λ hs. hs ++ gs) w.whole ∙ append_assoc w.written (w.next ∷ w.rest) gs;
+  files = w.files;
+}
+
+pub stops_behind : (fs gs : List SavedFile) (old mid new : Option Files) → mid ≡ put_all fs old →
+    StopsWriting gs mid new → StopsWriting (fs ++ gs) old new
+stops_behind fs gs old mid new all w = record {
+  written = fs ++ w.written;
+  next = w.next;
+  rest = w.rest;
+  whole = ap (λ hs. fs ++ hs) w.whole ∙ sym (append_assoc fs w.written (w.next ∷ w.rest));
+  files = w.files ∙ ap (put_all w.written) all ∙ sym (put_all-append fs w.written old);
+}
+
+-- the only file wasn't written
+pub one_failed :
+    {P : Type 0} (k : Keeper P) (f : SavedFile) (old new : P) → k.files new ≡ k.files old →
+    Rose (k.write_faults old) (k.write_faults new) → Writes k (f ∷ []) old new Failed
+one_failed k f old new same rose =
+    (record { written = []; next = f; rest = []; whole = refl; files = same }, rose)
+
+-- where one file is left, the first are written
+pub stops_first : (fs : List SavedFile) (old new : Option Files) → StopsWriting fs old new →
+    WritesFirst fs old new
+stops_first fs old new w =
+    record { written = w.written; rest = w.next ∷ w.rest; whole = w.whole; files = w.files }
+
 -- some files were written, and then others
 pub writes_more :
     {P : Type 0} (k : Keeper P) (fs gs : List SavedFile) (old mid new : P) (now : Ending) →
@@ -66,7 +100,7 @@ pub writes_more :
 writes_more k fs gs old mid new Written first next =
     (next.0 ∙ ap (put_all gs) first.0 ∙ sym (put_all-append fs gs (k.files old)), next.1 ∙ first.1)
 writes_more k fs gs old mid new Failed first next = (
-  writes_behind fs gs _ _ _ first.0 next.0,
+  stops_behind fs gs _ _ _ first.0 next.0,
   subst (λ n. Rose n (k.write_faults new)) first.1 next.1,
 )
 writes_more k fs gs old mid new Memory first next =
@@ -76,7 +110,7 @@ writes_more k fs gs old mid new Memory first next =
 pub writes_failed :
     {P : Type 0} (k : Keeper P) (fs gs : List SavedFile) (old new : P) →
     Writes k fs old new Failed → Writes k (fs ++ gs) old new Failed
-writes_failed k fs gs old new w = (writes_before fs gs _ _ w.0, w.1)
+writes_failed k fs gs old new w = (stops_before fs gs _ _ w.0, w.1)
 
 pub writes_wanted :
     {P : Type 0} (k : Keeper P) (fs gs : List SavedFile) (old new : P) →

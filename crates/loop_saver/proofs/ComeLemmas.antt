@@ -14,13 +14,13 @@ use Rattle.looper_rules.specs.SaveBlocks.{blocks_of_save, MayBeSent}
 use Rattle.loop_saver.specs.Savers.{SavingOf, underway_in, may_come, behind, may_all_come}
 
 -- where there is something, the test held
-some_then : {A : Type 0} (test : Bool) (x y : A) → then_some test x ≡ Some y → (test ≡ true)
+pub some_then : {A : Type 0} (test : Bool) (x y : A) → then_some test x ≡ Some y → (test ≡ true)
     × (x ≡ y)
 some_then true x y is = (refl, cc)
 some_then false x y is = absurd (cc)
 
 -- a block that comes is of the save that is due
-its_save : (saves : ℕ) (underway : Option Underway) (b : Block) (p : Place) →
+pub its_save : (saves : ℕ) (underway : Option Underway) (b : Block) (p : Place) →
     place_after saves underway b ≡ Some p → save_of b ≡ saves
 its_save saves None (Head save name target settings) p is =
     eqb-true save saves (and_parts (save == saves) (is_save_target target) (some_then _ _ p is).0).0

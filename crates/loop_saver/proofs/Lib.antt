@@ -1,3 +1,7 @@
 pub mod AcceptLemmas
-pub mod DueLemmas
 pub mod ComeLemmas
+pub mod DueLemmas
+pub mod FeedLemmas
+pub mod PlaceLemmas
+pub mod KeepLemmas
+pub mod WroteLemmas

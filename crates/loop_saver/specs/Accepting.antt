@@ -1,8 +1,9 @@
 -- Files are written one after another, up to the first that isn't: the keeper's count of writes
--- rose there, or memory was wanted. A save ends 0 where all its files are written, 1 where a write
--- failed since its head, and 4 where memory was wanted.
+-- rose there, or memory was wanted. A file whose write failed isn't written later, and none behind
+-- it is. A save ends 0 where all its files are written, 1 where a write failed since its head, and
+-- 4 where memory was wanted, also behind all its files.
 -- "Files of a save" in docs/formats.md.
-use Rattle.std.specs.Prelude.{◌≡◌, ◌⊎◌, ℕ, List, [], ◌++◌, Option, Some, None}
+use Rattle.std.specs.Prelude.{◌≡◌, ◌⊎◌, ℕ, List, [], ◌∷◌, ◌++◌, Option, Some, None}
 use Rattle.sl_base.specs.Counting.{Rose}
 use Rattle.sl_commands.specs.declared.Target.{Target}
 use Rattle.sl_commands.specs.declared.Block.{Block}
@@ -23,11 +24,19 @@ pub record WritesFirst (fs : List SavedFile) (old new : Option Files) : Type 0 w
   pub whole : fs ≡ written ++ rest
   pub files : new ≡ put_all written old
 
+-- the same where one file is left at least: it isn't written, and none behind it is
+pub record StopsWriting (fs : List SavedFile) (old new : Option Files) : Type 0 where
+  pub written : List SavedFile
+  pub next : SavedFile
+  pub rest : List SavedFile
+  pub whole : fs ≡ written ++ next ∷ rest
+  pub files : new ≡ put_all written old
+
 -- what writing files one after another does to a keeper, by how it ended
 abbrev pub Writes : {P : Type 0} → Keeper P → List SavedFile → P → P → Ending → Type 0
 Writes k fs old new Written = (k.files new ≡ put_all fs (k.files old))
     × (k.write_faults new ≡ k.write_faults old)
-Writes k fs old new Failed = WritesFirst fs (k.files old) (k.files new)
+Writes k fs old new Failed = StopsWriting fs (k.files old) (k.files new)
     × Rose (k.write_faults old) (k.write_faults new)
 Writes k fs old new Memory = WritesFirst fs (k.files old) (k.files new)
     × (k.write_faults new ≡ k.write_faults old)

@@ -1,3 +1,5 @@
 pub mod SavedFiles
 pub mod Savers
 pub mod Accepting
+pub mod Coming
+pub mod Keeping

@@ -23,5 +23,9 @@ mod tests;
 mod writing;
 
 pub use ending::Ending;
-pub use laws::{the_blocks_of_a_save_may_come, the_files_of_a_save_are_due_at_its_blocks};
+pub use laws::{
+    a_saver_is_where_its_blocks_lead, blocks_are_accepted_one_after_another,
+    the_blocks_of_a_save_may_come, the_files_of_a_save_are_due_at_its_blocks,
+    the_files_of_saves_are_written_save_after_save,
+};
 pub use saver::{Saved, Saver};

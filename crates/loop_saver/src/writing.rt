@@ -15,6 +15,7 @@ use std::alloc::Global;
 use wav_pcm::wav_text;
 
 /// Writes a file of these bytes.
+#[tactic(auto, using(crate::proofs::AcceptLemmas::one_failed))]
 fn write<P: Keeper>(alloc: Global, keeper: &mut P, name: &Name, bytes: &[u8]) -> Ending
     ensures reads { P.read_faults keeper.new ≡ P.read_faults keeper.old }
     ensures value { Writes P.Keeper (record { name = name.now; bytes = bytes.now } ∷ []) keeper.old

@@ -1,5 +1,5 @@
 -- How a command ends, from what it answers.
-use Rattle.std.proofs.Common.{◌≡◌, ℕ, List, Option, Some, None, sym, ◌∙◌, subst, refl, inl, inr, ◌⊎◌}
+use Rattle.std.proofs.Common.{◌≡◌, ◌≢◌, ℕ, List, Option, Some, None, sym, ◌∙◌, subst, refl, inl, inr, ◌⊎◌, arith}
 use Rattle.std.specs.Prelude.{Ok, Err, IfSome}
 use Rattle.std.specs.String.{string_bytes}
 use Rattle.std.specs.declared.string.String.{String}
@@ -16,7 +16,7 @@ use Rattle.looper_cli.specs.Words.{Asked, renders, shows}
 use Rattle.looper_cli.specs.Named.{named_of, IsNamedBy}
 use Rattle.looper_cli.specs.Console.{TellsDone, TellsFault}
 use Rattle.looper_cli.specs.Statuses.{status_number, status_of}
-use Rattle.looper_cli.specs.Endings.{StaysWhole, Does, IsDone, IsBadFor, IsBeyondFor, CannotWrite, Ends}
+use Rattle.looper_cli.specs.Endings.{StaysWhole, KeepsCounts, CountsBy, Does, IsDone, IsBadFor, IsBeyondFor, CannotWrite, Ends}
 use Rattle.looper_cli.specs.declared.status.RunFault.{RunFault}
 use Rattle.looper_cli.specs.declared.status.RunFault.TheVariants.{BadFile as IsBad, Limit as Beyond, Reading, Writing, Memory as Lacking}
 use Rattle.looper_cli.specs.declared.status.Status.{Status}
@@ -255,3 +255,56 @@ limit_always_ends k s (Some a) asked old new before after status number (Some f)
     subst (λ n. (n ≡ 4) ⊎ (n ≡ 8) ⊎ (n ≡ 9)) (sym numbered)
     (limit_ends k s a old new before after status f (subst IsNamedBy same named) told
     (subst (λ one. Ends k s one old new before after status) same ends) beyond)
+
+-- the counts of a command that is done, however its text is told
+pub done_counts :
+    {P C : Type 0} (k : Keeper P) (s : Sink C) (old new : P) (before after : C) (bytes : List ℕ)
+    (status : Status) → StaysWhole k old new → TellsDone s before after bytes status →
+    KeepsCounts k old new status
+done_counts k s old new before after bytes Done whole told = whole
+done_counts k s old new before after bytes Words whole told = whole
+done_counts k s old new before after bytes BadFile whole told = whole
+done_counts k s old new before after bytes ReadFault whole told = whole.writes
+done_counts k s old new before after bytes WriteFault whole told = whole.reads
+done_counts k s old new before after bytes Memory whole told = whole
+done_counts k s old new before after bytes Limit whole told = whole
+
+-- where the status isn't that of a reading that failed, none did
+pub read_only_at_4 :
+    {P : Type 0} (k : Keeper P) (old new : P) (status : Status) (number : ℕ) →
+    KeepsCounts k old new status → number ≡ status_number status → number ≢ 4 →
+    k.read_faults new ≡ k.read_faults old
+read_only_at_4 k old new Done number keeps is other = keeps.reads
+read_only_at_4 k old new Words number keeps is other = keeps.reads
+read_only_at_4 k old new BadFile number keeps is other = keeps.reads
+read_only_at_4 k old new ReadFault number keeps is other = absurd (other is)
+read_only_at_4 k old new WriteFault number keeps is other = keeps
+read_only_at_4 k old new Memory number keeps is other = keeps.reads
+read_only_at_4 k old new Limit number keeps is other = keeps.reads
+
+-- and so of writes
+pub write_only_at_5 :
+    {P : Type 0} (k : Keeper P) (old new : P) (status : Status) (number : ℕ) →
+    KeepsCounts k old new status → number ≡ status_number status → number ≢ 5 →
+    k.write_faults new ≡ k.write_faults old
+write_only_at_5 k old new Done number keeps is other = keeps.writes
+write_only_at_5 k old new Words number keeps is other = keeps.writes
+write_only_at_5 k old new BadFile number keeps is other = keeps.writes
+write_only_at_5 k old new ReadFault number keeps is other = keeps
+write_only_at_5 k old new WriteFault number keeps is other = absurd (other is)
+write_only_at_5 k old new Memory number keeps is other = keeps.writes
+write_only_at_5 k old new Limit number keeps is other = keeps.writes
+
+-- words in the grammar don't end as others do
+pub asked_not_at_2 :
+    {P C : Type 0} (k : Keeper P) (s : Sink C) (asked : Asked) (old new : P) (before after : C)
+    (status : Status) (number : ℕ) → Ends k s asked old new before after status →
+    number ≡ status_number status → number ≡ 2 → new ≡ old
+asked_not_at_2 k s asked old new before after Done number ends is two = absurd (omega arith)
+asked_not_at_2 k s asked old new before after Words number ends is two = absurd ends
+asked_not_at_2 k s asked old new before after BadFile number ends is two = absurd (omega arith)
+asked_not_at_2 k s asked old new before after ReadFault number ends is two = absurd (omega arith)
+asked_not_at_2 k s asked old new before after WriteFault number ends is two =
+    absurd (omega arith)
+asked_not_at_2 k s asked old new before after Memory number ends is two = absurd (omega arith)
+asked_not_at_2 k s asked old new before after Limit number ends is two = absurd (omega arith)

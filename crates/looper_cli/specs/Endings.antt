@@ -7,10 +7,11 @@
 --   changed.
 -- - ReadFault: the keeper's count of readings rose. No file changed.
 -- - WriteFault: of `render`, the keeper's count of writes rose, and the first of the files of a
---   command that is done are written; or the console's count rose, and the files are those of a
---   command that is done.
+--   command that is done are written, of which one at least is left: what wasn't written isn't
+--   tried again. Or the console's count rose, and the files are those of a command that is done.
 -- - Memory: nothing was told, and no file changed, but that of `render` the first of the files of a
 --   command that is done may be written.
+-- The keeper's count of readings rises at ReadFault alone, and that of writes at WriteFault alone.
 -- The console has the text of the status, or a prefix of it, and then only where its count rose.
 -- "Statuses" in docs/formats.md.
 use Rattle.std.specs.Prelude.{◌≡◌, ◌⊎◌, ⊤, ℕ, ◌++◌, Option, List, [], ◌∷◌, length, Result, Ok, Err}
@@ -33,19 +34,19 @@ use Rattle.wav_pcm.specs.WavText.{wav_text}
 use Rattle.looper_rules.specs.Looper.{Looper}
 use Rattle.looper_rules.specs.Run.{Ran, start}
 use Rattle.loop_saver.specs.SavedFiles.{SavedFile, put_all}
-use Rattle.loop_saver.specs.Accepting.{WritesFirst}
-use Rattle.journal_run.specs.Inputs.{InputOf}
+use Rattle.loop_saver.specs.Accepting.{WritesFirst, StopsWriting}
+use Rattle.wav_pcm.specs.Inputs.{InputOf}
 use Rattle.journal_run.specs.RunTexts.{run_text}
 use Rattle.journal_run.specs.Performing.{ran_over, saved_by}
-use Rattle.journal_run.specs.declared.starting.PlayFault.{PlayFault}
-use Rattle.journal_run.specs.declared.starting.PlayFault.TheVariants.{Limit as TooFew, Writing as Unwritten, Memory as Wanted}
+use Rattle.save_feeding.specs.declared.stopped.Stopped.{Stopped}
+use Rattle.save_feeding.specs.declared.stopped.Stopped.TheVariants.{Writing as Unwritten, Memory as Wanted}
 use Rattle.run_files.specs.AllFiles.{Told, IsRunOf, ExceedsLimit, FirstBad}
 use Rattle.run_files.specs.declared.run.RunFault.{RunFault as FilesFault}
 use Rattle.run_files.specs.declared.run.RunFault.TheVariants.{File as BadOne, Read as NotRead, Memory as NoRoom, Limit as TooMuch}
 use Rattle.looper_cli.specs.Words.{RenderAsked, Asked, renders, shows}
 use Rattle.looper_cli.specs.Named.{named_of}
 use Rattle.looper_cli.specs.Console.{bad_file_text, done_text, show_text}
-use Rattle.looper_cli.specs.Statuses.{status_line}
+use Rattle.looper_cli.specs.Statuses.{status_line, status_of}
 use Rattle.looper_cli.specs.declared.status.RunFault.{RunFault}
 use Rattle.looper_cli.specs.declared.status.RunFault.TheVariants.{BadFile as IsBad, Limit as Beyond, Reading, Writing, Memory as Lacking}
 use Rattle.looper_cli.specs.declared.status.Status.{Status}
@@ -97,6 +98,12 @@ pub record RendersFirst (r : RenderAsked) (before after : Option Files) : Type 0
   pub run : IsRunOf before (named_of r) told
   pub files : WritesFirst (files_of_run r told) before after
 
+-- the same where one of the files is left at least: it isn't written, and none behind it is
+pub record StopsRendering (r : RenderAsked) (before after : Option Files) : Type 0 where
+  pub told : Told
+  pub run : IsRunOf before (named_of r) told
+  pub files : StopsWriting (files_of_run r told) before after
+
 -- no count of the keeper rose
 pub record StaysWhole {P : Type 0} (k : Keeper P) (old new : P) : Type 0 where
   pub reads : k.read_faults new ≡ k.read_faults old
@@ -104,8 +111,23 @@ pub record StaysWhole {P : Type 0} (k : Keeper P) (old new : P) : Type 0 where
 
 -- a file of a run couldn't be written
 pub record FailsToWrite {P : Type 0} (k : Keeper P) (r : RenderAsked) (old new : P) : Type 0 where
-  pub first : RendersFirst r (k.files old) (k.files new)
+  pub first : StopsRendering r (k.files old) (k.files new)
   pub rose : Rose (k.write_faults old) (k.write_faults new)
+
+-- which counts of the keeper stay as they are, by how a command ends
+abbrev pub KeepsCounts : {P : Type 0} → Keeper P → P → P → Status → Type 0
+KeepsCounts k old new Done = StaysWhole k old new
+KeepsCounts k old new Words = StaysWhole k old new
+KeepsCounts k old new BadFile = StaysWhole k old new
+KeepsCounts k old new ReadFault = k.write_faults new ≡ k.write_faults old
+KeepsCounts k old new WriteFault = k.read_faults new ≡ k.read_faults old
+KeepsCounts k old new Memory = StaysWhole k old new
+KeepsCounts k old new Limit = StaysWhole k old new
+
+-- the same by what it answers: its text, or a fault
+abbrev pub CountsBy : {P : Type 0} → Keeper P → P → P → Result (String Global) RunFault → Type 0
+CountsBy k old new (Ok text) = StaysWhole k old new
+CountsBy k old new (Err fault) = KeepsCounts k old new (status_of fault)
 
 -- what a run that isn't done leaves, by its fault
 abbrev pub FailsBy : {P : Type 0} → Keeper P → RenderAsked → P → P → RunFault → Type 0
@@ -137,8 +159,7 @@ PassesLoad (BadPart name kind line) result = result ≡ IsBad name kind line
 PassesLoad Unread result = result ≡ Reading
 PassesLoad NoMemory result = result ≡ Lacking
 
-abbrev pub PassesPlay : PlayFault → RunFault → Type 0
-PassesPlay TooFew result = result ≡ Beyond
+abbrev pub PassesPlay : Stopped → RunFault → Type 0
 PassesPlay Unwritten result = result ≡ Writing
 PassesPlay Wanted result = result ≡ Lacking
 

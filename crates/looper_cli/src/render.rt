@@ -5,14 +5,15 @@ ghost use Rattle.std.specs.String.{string_bytes};
 ghost use Rattle.run_files.specs.Named.{IsNamed};
 ghost use Rattle.looper_cli.specs.Named.{named_of};
 ghost use Rattle.looper_cli.specs.Statuses.{status_line};
-ghost use Rattle.looper_cli.specs.Endings.{Leaves, PassesFiles, PassesPlay};
+ghost use Rattle.looper_cli.specs.Endings.{CountsBy, Leaves, PassesFiles, PassesPlay};
 ghost use Rattle.looper_cli.specs.declared.status.RunFault.TheVariants.{Memory as Lacking};
 ghost use Rattle.looper_cli.specs.declared.status.Status.TheVariants.{Done};
 
 use crate::status::{RunFault, Status};
 use crate::words::Render;
-use journal_run::{Performed, PlayFault, play};
-use run_files::{RunFault as FilesFault, RunFiles, read_run};
+use journal_run::{Performed, play};
+use run_files::{RunFault as FilesFault, read_run};
+use save_feeding::Stopped;
 use sl_ports::{KeepAnswer, Keeper};
 use std::alloc::Global;
 
@@ -29,13 +30,12 @@ fn fault_of(fault: FilesFault) -> RunFault
 }
 
 /// Why a run gives nothing, as its fault.
-fn play_fault_of(fault: PlayFault) -> RunFault
+fn play_fault_of(fault: Stopped) -> RunFault
     ensures { PassesPlay fault result }
 {
     match fault {
-        PlayFault::Limit => RunFault::Limit,
-        PlayFault::Writing => RunFault::Writing,
-        PlayFault::Memory => RunFault::Memory,
+        Stopped::Writing => RunFault::Writing,
+        Stopped::Memory => RunFault::Memory,
     }
 }
 
@@ -57,6 +57,7 @@ fn told(performed: &mut Performed) -> Result<(), RunFault>
 pub fn render<P: Keeper>(alloc: Global, keeper: &mut P, asked: &Render) -> Result<String, RunFault>
     ensures named { IsNamed (named_of asked.now) }
     ensures leaves { Leaves P.Keeper asked.now keeper.old keeper.new result }
+    ensures counts { CountsBy P.Keeper keeper.old keeper.new result }
 {
     let files = match read_run(alloc, keeper, &asked.sources()) {
         Ok(files) => files,

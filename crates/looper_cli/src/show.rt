@@ -3,8 +3,7 @@
 ghost use Rattle.std.specs.Prelude.{◌≡◌, ◌≤◌, ◌*◌, ◌++◌, [], length, sum_by, IfOk, OnOk};
 ghost use Rattle.std.specs.String.{string_bytes};
 ghost use Rattle.looper_cli.specs.Console.{loop_line, loop_lines_then, length_in, strips_text};
-ghost use Rattle.looper_cli.specs.Endings.{PassesLoad};
-ghost use Rattle.looper_cli.specs.Endings.{LooksAt};
+ghost use Rattle.looper_cli.specs.Endings.{CountsBy, LooksAt, PassesLoad};
 ghost use Rattle.sl_base.specs.Limits.{max_loops};
 
 use crate::status::{RunFault, Status};
@@ -76,6 +75,7 @@ fn write_text(alloc: Global, strips: &[StripSettings]) -> Result<String, AllocEr
 pub fn show<P: Keeper>(alloc: Global, keeper: &mut P, session: &Show) -> Result<String, RunFault>
     ensures files { P.files keeper.new ≡ P.files keeper.old }
     ensures told { LooksAt P.Keeper session.now keeper.old keeper.new result }
+    ensures counts { CountsBy P.Keeper keeper.old keeper.new result }
 {
     let (settings, _lists) = match load(alloc, keeper, &session.name) {
         Ok(loaded) => loaded,

@@ -1,13 +1,13 @@
 //! The top call.
 
-ghost use Rattle.std.specs.Prelude.{◌≡◌, ◌⊎◌, ◌↔◌, ℕ, List, Some, None, IfSome, map};
+ghost use Rattle.std.specs.Prelude.{◌≡◌, ◌≢◌, ◌⊎◌, ◌↔◌, ℕ, List, Some, None, IfSome, map};
 ghost use Rattle.std.specs.Io.KnownBytes.{Appends};
 ghost use Rattle.std.specs.String.{string_bytes};
 ghost use Rattle.sl_base.specs.Counting.{Rose};
 ghost use Rattle.sl_ports.specs.Effects.{TellsTo};
 ghost use Rattle.sl_ports.specs.Texts.{AppendsPrefix};
 ghost use Rattle.looper_cli.specs.Named.{asked_by, IsNamedBy};
-ghost use Rattle.looper_cli.specs.Endings.{Ends, Does, StaysWhole, IsDone, NamesBad, IsBadFor, CannotWrite, IsBeyondFor, WritesAtMost};
+ghost use Rattle.looper_cli.specs.Endings.{Ends, Does, CountsBy, KeepsCounts, StaysWhole, IsDone, NamesBad, IsBadFor, CannotWrite, IsBeyondFor, WritesAtMost};
 ghost use Rattle.looper_cli.specs.Statuses.{IsStatusNumber, status_line};
 ghost use Rattle.looper_cli.specs.Words.{asked_in};
 ghost use Rattle.looper_cli.specs.declared.status.Status.TheVariants.{Words as Other, ReadFault, WriteFault, Limit};
@@ -24,6 +24,7 @@ use std::alloc::Global;
 fn run<P: Keeper>(alloc: Global, keeper: &mut P, words: &Words) -> Result<String, RunFault>
     ensures named { IsNamedBy (asked_by words.now) }
     ensures does { Does P.Keeper (asked_by words.now) keeper.old keeper.new result }
+    ensures counts { CountsBy P.Keeper keeper.old keeper.new result }
 {
     match words {
         Words::Render(asked) => render(alloc, keeper, asked),
@@ -41,6 +42,7 @@ fn run_and_tell<P: Keeper, C: Sink>(
     ensures named { IsNamedBy (asked_by words.now) }
     ensures ends { Ends P.Keeper C.Sink (asked_by words.now)
         keeper.old keeper.new console.old console.new result }
+    ensures counts { KeepsCounts P.Keeper keeper.old keeper.new result }
 {
     match run(alloc, keeper, words) {
         Ok(text) => tell_done(console, text.as_str()),
@@ -100,6 +102,12 @@ pub fn plain_run<P: Keeper, C: Sink>(
         ⊎ (Rose (C.faults console.old) (C.faults console.new)
         × IsDone asked (P.files keeper.old) (P.files keeper.new)
         (AppendsPrefix (C.held console.old) (C.held console.new)))) }
+
+    // And where no reading failed the count of readings is as before, as that of writes where no
+    // write did. Other words touch nothing.
+    ensures reads { result ≢ 4 → P.read_faults keeper.new ≡ P.read_faults keeper.old }
+    ensures writes { result ≢ 5 → P.write_faults keeper.new ≡ P.write_faults keeper.old }
+    ensures words_touch_nothing { result ≡ 2 → keeper.new ≡ keeper.old }
 
     // Files change at 0, 5 and 8 alone, at 8 by the first files of the run at most; and 8 tells
     // nothing.

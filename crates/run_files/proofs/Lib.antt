@@ -1,4 +1,3 @@
-pub mod LimitLemmas
 pub mod ReadLemmas
 pub mod FileLemmas
 pub mod PartLemmas

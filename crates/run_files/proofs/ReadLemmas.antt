@@ -21,8 +21,8 @@ use Rattle.session_file.specs.declared.loading.LoadFault.TheVariants.{File, Read
 use Rattle.session_file.specs.Parts.{part_name}
 use Rattle.looper_rules.specs.Reached.{AreLists}
 use Rattle.session_file.proofs.LoadLemmas.{reads_on}
-use Rattle.journal_run.proofs.InputLemmas.{form_rate}
-use Rattle.journal_run.specs.Inputs.{InputOf, spelling_of_input}
+use Rattle.wav_pcm.proofs.InputLemmas.{form_rate}
+use Rattle.wav_pcm.specs.Inputs.{InputOf, spelling_of_input}
 use Rattle.run_files.specs.Named.{Named}
 use Rattle.run_files.specs.OneFile.{HoldsWav, no_wav_file, bad_wav, HoldsJournal, no_journal_file, bad_journal_text, IsBadInput, IsBadJournal}
 use Rattle.run_files.specs.AllFiles.{Begins, IsBadBeginning, HoldsRun, FirstBad, bad_input, bad_beginning, bad_journal}

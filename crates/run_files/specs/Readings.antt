@@ -18,7 +18,7 @@ use Rattle.wav_pcm.specs.Reading.{form_of}
 use Rattle.wav_pcm.specs.Faults.{fault_number}
 use Rattle.wav_pcm.specs.Files.{IsWav}
 use Rattle.journal_text.specs.Journals.{IsJournal, journal_form}
-use Rattle.journal_run.specs.Inputs.{InputOf, spelling_of_input}
+use Rattle.wav_pcm.specs.Inputs.{InputOf, spelling_of_input}
 use Rattle.run_files.specs.Named.{Named}
 use Rattle.run_files.specs.OneFile.{HoldsWav, HoldsJournal, IsBadInput, IsBadJournal}
 use Rattle.run_files.specs.RunLimits.{IsWithin, IsBeyond}

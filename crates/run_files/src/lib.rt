@@ -11,13 +11,12 @@
 //! - Nothing is written. A failed reading and want of memory are answers of their own, and say
 //!   nothing of the files.
 //!
-//! Begin with `sources`, then `run`; `reading` reads each file, `limits` judges the limits, and
+//! Begin with `sources`, then `run`; `reading` reads each file, and
 //! `laws` has what holds of the definitions.
 //! The rules are "The files of a run" in docs/formats.md.
 #![tactic(auto)]
 
 mod laws;
-mod limits;
 mod reading;
 mod run;
 mod sources;

@@ -5,29 +5,15 @@ ghost use Rattle.sl_base.specs.Limits.{max_session_name};
 ghost use Rattle.sl_commands.specs.Settings.{is_loop_count, is_rate};
 ghost use Rattle.sl_ports.specs.Effects.{OnlyReads};
 ghost use Rattle.session_file.specs.Loading.{is_unread};
-ghost use Rattle.session_file.specs.Outcomes.{ReadsBytes};
 ghost use Rattle.run_files.specs.Readings.{TellsInput, TellsJournal, ReadsInput, ReadsBeginning, ReadsJournal};
 
-use journal_run::Input;
 use journal_text::read_journal as journal_of;
-use session_file::{LoadFault, load};
+use session_file::{LoadFault, load, read_bytes};
 use sl_base::Name;
 use sl_commands::{Entries, Initial, ReadText, Settings};
-use sl_ports::{FileAnswer, Keeper};
+use sl_ports::Keeper;
 use std::alloc::Global;
-
-/// The bytes of a file.
-fn read_bytes<P: Keeper>(alloc: Global, keeper: &mut P, name: &Name) -> Result<Vec<u8>, LoadFault>
-    ensures reads { OnlyReads P.Keeper keeper.old keeper.new (is_unread result) }
-    ensures value { ReadsBytes (P.files keeper.old) name.now result }
-{
-    match keeper.read_file(alloc, name) {
-        FileAnswer::Bytes(bytes) => Ok(bytes),
-        FileAnswer::Missing => Err(LoadFault::File(name.duplicate(), 0, 0)),
-        FileAnswer::Failed => Err(LoadFault::Read),
-        FileAnswer::Memory => Err(LoadFault::Memory),
-    }
-}
+use wav_pcm::Input;
 
 /// The input that bytes are.
 fn input_in(name: &Name, bytes: Vec<u8>) -> Result<Input, LoadFault>

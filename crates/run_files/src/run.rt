@@ -7,15 +7,15 @@ ghost use Rattle.journal_text.specs.Journals.{AreOfJournal};
 ghost use Rattle.looper_rules.specs.Reached.{AreLists, IsBeginning};
 ghost use Rattle.run_files.specs.Readings.{IsFaultOf, Judges, ReadsAll, ReadsRun, is_unread};
 
-use crate::limits::chunks_for;
 use crate::reading::{read_beginning, read_input, read_journal};
 use crate::sources::Sources;
-use journal_run::Input;
+use looper_tracks::chunks_needed;
 use session_file::LoadFault;
 use sl_base::{MAX_FILE_FRAMES, Name};
 use sl_commands::{Entries, Initial, Settings};
 use sl_ports::Keeper;
 use std::alloc::Global;
+use wav_pcm::Input;
 
 /// What a run goes over.
 #[derive(Drop)]
@@ -95,7 +95,7 @@ fn judge(files: RunFiles, chunks: u32) -> Result<RunFiles, RunFault>
     if files.input.len() > MAX_FILE_FRAMES {
         return Err(RunFault::Limit);
     }
-    if chunks < chunks_for(files.settings.strips.as_slice(), files.initial.as_slice()) {
+    if chunks < chunks_needed(files.settings.strips.as_slice(), files.initial.as_slice()) {
         return Err(RunFault::Limit);
     }
     Ok(files)

@@ -3,3 +3,4 @@ pub mod Lines
 pub mod FirstFaults
 pub mod Shapes
 pub mod Targets
+pub mod Presses

@@ -6,7 +6,7 @@
 //!   0, `read_integer` a whole number of 32 bits; `is_numeral` and `is_integer` tell what looks
 //!   like one.
 //! - `target_of` gives the target that a word spells, `number_of` a number up to a greatest one,
-//!   and `behind` the words behind a first one.
+//!   and `behind` the words behind a first one. `press_of` gives the verb that words give to a loop.
 //! - `have_shapes` tells whether words look like those of a form, whatever they name.
 //! - What the first fault of a text is stands in the definitions alone: a form of text says how a
 //!   line is spelled, what may follow, where `end` is due and what is wrong with a line. Where a
@@ -22,6 +22,7 @@ mod integer;
 mod laws;
 mod line;
 mod numeral;
+mod press;
 mod shape;
 #[cfg(test)]
 mod tests;
@@ -31,5 +32,6 @@ pub use integer::{is_integer, read_integer};
 pub use laws::{a_line_is_its_words, integers_have_one_spelling, numbers_have_one_spelling};
 pub use line::{MOST_WORDS, Words, next_line, words_of};
 pub use numeral::{is_numeral, read_numeral};
+pub use press::press_of;
 pub use shape::{Shape, have_shapes};
 pub use word::{behind, number_of, target_of};

@@ -1,11 +1,13 @@
-use Rattle.std.proofs.Common.{refl, subst, List, ap, ◌∙◌}
+use Rattle.std.proofs.Common.{◌≡◌, refl, subst, List, ap, ◌∙◌, rules}
+use Rattle.std.specs.Prelude.{Err}
+use Rattle.save_feeding.specs.declared.stopped.Stopped.TheVariants.{Memory}
 use Rattle.sl_commands.specs.declared.Command.{Command}
 use Rattle.looper_rules.specs.Entries.{reply, save}
 use Rattle.loop_saver.specs.SavedFiles.{SavedFile}
 use Rattle.loop_saver.proofs.AcceptLemmas.{writes_none}
 use Rattle.engine_steps.specs.Engines.{EngineOf, entry_of, took}
 use Rattle.engine_steps.specs.InStep.{with_taken}
-use Rattle.journal_run.specs.Feeding.{SentOn, WritesAll}
+use Rattle.save_feeding.specs.Feeding.{SentOn, WritesAll}
 use Rattle.journal_run.proofs.TakeLemmas.{may_take, taken_somehow, taken_may_end, taken_due, taken_in_step, on_any}
 use Rattle.journal_run.proofs.entries.take_entry.Goals as goal
 
@@ -13,8 +15,10 @@ pub take-answer-requires-clause-clears : goal.take-answer-requires-clause-clears
 take-answer-requires-clause-clears g c =
     may_take _ c.args.engine.now c.requires.step c.requires.none
 
-pub returns-then-is_err-clause-files : goal.returns-then-is_err-clause-files
-returns-then-is_err-clause-files g c = (writes_none g.P.Keeper _ c.args.keeper.now, refl)
+pub returns-in_err-write_answer-clause-files : goal.returns-in_err-write_answer-clause-files
+returns-in_err-write_answer-clause-files g c =
+    let passed : c.from_residual.result ≡ Err Memory = search rules in
+    rw passed (writes_none g.P.Keeper _ c.args.keeper.now, refl)
 
 pub feed-requires-clause-step : goal.feed-requires-clause-step
 feed-requires-clause-step g c =

@@ -1,10 +1,10 @@
 use Rattle.std.proofs.Common.{◌≡◌, ◌≤◌, min, length, ap, ◌∙◌, sym, subst, arith, rules}
 use Rattle.std.specs.Prelude.{Err}
 use Rattle.std.specs.String.{string_bytes}
-use Rattle.journal_run.specs.Feeding.{StopsAt}
+use Rattle.save_feeding.specs.Feeding.{StopsAt}
 use Rattle.loop_saver.specs.SavedFiles.{files_for_all}
 use Rattle.engine_steps.specs.Engines.{first_looper}
-use Rattle.journal_run.specs.declared.feeding.Stopped.{Stopped}
+use Rattle.save_feeding.specs.declared.stopped.Stopped.{Stopped}
 use Rattle.journal_run.specs.Performing.{ran_over}
 use Rattle.journal_run.proofs.PlayLemmas.{frame_at, come_frames, come_entry, has_room_at, played_before-push}
 use Rattle.journal_run.proofs.TurnLemmas.{stop_now, stop_in_entry}

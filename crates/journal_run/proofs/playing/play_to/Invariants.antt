@@ -2,7 +2,7 @@
 use Rattle.std.proofs.Common.{◌≡◌, ◌≤◌, ◌-◌, ◌++◌}
 use Rattle.wav_pcm.specs.WavText.{samples}
 use Rattle.engine_steps.specs.Engines.{went_on, put_out}
-use Rattle.journal_run.specs.Inputs.{span_of}
+use Rattle.wav_pcm.specs.Inputs.{span_of}
 use Rattle.journal_run.proofs.playing.play_to.Given as goal
 
 abbrev pub invariant-spans : goal.invariant-spans

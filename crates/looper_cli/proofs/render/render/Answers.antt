@@ -1,12 +1,11 @@
-use Rattle.std.proofs.Common.{◌≡◌, ◌<◌, ℕ, Err, map, length, rules, refl, ap, ◌∙◌, subst}
+use Rattle.std.proofs.Common.{◌≡◌, ℕ, Err, rules, refl, sym, ap, ◌∙◌}
 use Rattle.std.specs.declared.vec.Vec.{Vec}
 use Rattle.std.specs.declared.alloc.Global.{Global}
 use Rattle.sl_ports.specs.Files.{put_told}
-use Rattle.looper_rules.specs.Room.{used}
 use Rattle.run_files.specs.Readings.{told_of}
 use Rattle.looper_cli.specs.Words.{RenderAsked}
 use Rattle.looper_cli.specs.declared.status.RunFault.TheVariants.{Memory as Lacking}
-use Rattle.looper_cli.proofs.RenderLemmas.{unread_fails, played_so, unplayed, gave, unplayed_fails, untold_fails, run_is_done}
+use Rattle.looper_cli.proofs.RenderLemmas.{unread_fails, played_so, unplayed, gave, unplayed_fails, untold_fails, run_is_done, out_is_left, unread_counts, unplayed_counts, lists_fit}
 use Rattle.looper_cli.proofs.render.render.Goals as goal
 
 pub returns-in-Err-clause-leaves : goal.returns-in-Err-clause-leaves
@@ -23,9 +22,27 @@ returns-in-Err-played-clause-leaves g c =
     c.play_fault_of.result c.sources.ensures.value c.in-Ok.ensures.reads c.in-Ok.ensures.value
     (played_so g.P.Keeper c.args.asked.now (told_of c.in-Ok.files) c.read_run.new.keeper
     c.play-played.new.keeper _ _ (unplayed c.in-Err-played.fault)
-    c.as_slice.ensures chunks c.in-Err-played.ensures.value)
-    (λ short. subst (λ (n : ℕ). n < used (map length c.in-Ok.files.initial)) chunks
-    (c.in-Err-played.ensures.limit.0 short)) c.play_fault_of.ensures
+    c.as_slice.ensures chunks c.in-Err-played.ensures.value) c.play_fault_of.ensures
+
+pub returns-in-Err-clause-counts : goal.returns-in-Err-clause-counts
+returns-in-Err-clause-counts g c =
+    unread_counts g.P.Keeper c.args.keeper.now c.read_run.new.keeper c.in-Err.fault
+    c.fault_of.result c.in-Err.ensures.reads c.fault_of.ensures
+
+pub play-played-requires-clause-room : goal.play-played-requires-clause-room
+play-played-requires-clause-room g c =
+    lists_fit c.args.asked.now _ _ _ c.sources.ensures.value
+    (sym (ap (λ (r : RenderAsked). r.chunks) c.asked.view_is)) c.in-Ok.ensures.value.within.chunks
+
+pub returns-in-Err-played-clause-counts : goal.returns-in-Err-played-clause-counts
+returns-in-Err-played-clause-counts g c =
+    unplayed_counts g.P.Keeper c.args.asked.now (told_of c.in-Ok.files) c.args.keeper.now
+    c.read_run.new.keeper c.play-played.new.keeper c.in-Err-played.fault c.play_fault_of.result
+    c.in-Ok.ensures.reads
+    (played_so g.P.Keeper c.args.asked.now (told_of c.in-Ok.files) c.read_run.new.keeper
+    c.play-played.new.keeper _ _ (unplayed c.in-Err-played.fault) c.as_slice.ensures
+    (ap (λ (r : RenderAsked). r.chunks) c.asked.view_is) c.in-Err-played.ensures.value)
+    c.play-played.ensures.reads c.play_fault_of.ensures
 
 pub returns-in_err-told-clause-leaves : goal.returns-in_err-told-clause-leaves
 returns-in_err-told-clause-leaves g c =
@@ -62,3 +79,13 @@ returns-in-Done-clause-leaves g c =
         writes = c.in-Done.ensures.counts.stayed refl ∙ plays.2.1 ∙ c.in-Ok.ensures.reads.writes;
       },
     )
+
+pub returns-in-Failed-clause-leaves : goal.returns-in-Failed-clause-leaves
+returns-in-Failed-clause-leaves g c =
+    out_is_left g.P.Keeper c.args.asked.now _ (told_of c.in-Ok.files) c.args.keeper.now
+    c.read_run.new.keeper c.play-played.new.keeper c.write_file.new.self c.in-Ok-played.performed
+    c.sources.ensures.value c.in-Ok.ensures.reads c.in-Ok.ensures.value
+    (played_so g.P.Keeper c.args.asked.now (told_of c.in-Ok.files) c.read_run.new.keeper
+    c.play-played.new.keeper _ _ (gave c.in-Ok-played.performed) c.as_slice.ensures
+    (ap (λ (r : RenderAsked). r.chunks) c.asked.view_is) c.in-Ok-played.ensures.value)
+    c.in-Failed.ensures.value (c.in-Failed.ensures.counts.rose refl)
