@@ -48,6 +48,7 @@ once-alike f g n zero a x (c ∷ cs) e ex l w = rw (w.0, ex, cells-alike f g n a
 once-alike f g n (suc k) a x (c ∷ cs) e ex l w =
     rw (e c.content l.0 w.0, once-alike f g n k a x cs e ex l.1 w.1) refl
 
+-- one address rewritten is one cell rewritten, where it stands once
 pub stack-rewritten : {A : Type 0} (f g : ℕ → A) (how : How) (n place a : ℕ) (x : A)
     (layers : List (Layer ℕ)) (s : Stack ℕ) → s.layers ≡ layers → overwrites how ≡ true →
     ((b : ℕ) → b < n → b ≢ a → f b ≡ g b) → f a ≡ x → AllByRecursion (LayerBelow n) layers →

@@ -27,6 +27,7 @@ cut-marked floor (Some zero) xs = refl
 cut-marked floor (Some (suc k)) [] = refl
 cut-marked floor (Some (suc k)) (x ∷ xs) = ap (λ t. x ∷ t) (cut-marked floor (Some k) xs)
 
+-- as many frames as cells
 pub length-contents : {A : Type 0} (cs : List (Cell A)) → length (contents cs) ≡ length cs
 length-contents cs = length-map cs (λ c. c.content)
 
@@ -35,6 +36,7 @@ length-cut : (floor : ℕ) (cut : Option ℕ) (xs : List ℕ) →
 length-cut floor cut xs = let a = length-contents (cut_cells cut (marked floor xs)) in
     let b = ap (λ t. length t) (cut-marked floor cut xs) in omega (arith, a, b)
 
+-- the open layer closed is the rules' closing
 pub stack-closed : (tape : TapeOf) (closed closed' : LayersOf) (d d' : FillOf) (t : Top)
     (pin : Option ℕ) (pinned : List ℕ) (cut : Option ℕ) → closed.redo ≡ [] →
     closed'.layers ≡ closed_of (cut_list cut d.cells)
@@ -44,6 +46,7 @@ pub stack-closed : (tape : TapeOf) (closed closed' : LayersOf) (d d' : FillOf) (
 stack-closed tape closed closed' d d' t pin pinned cut r el er =
     rw (el, er, r, cut-marked d.floor cut d.cells, length-cut d.floor cut d.cells) refl
 
+-- what always holds, with the layer closed
 pub held-closed : (tape cycle : ℕ) (xs : List ℕ) (closed closed' : LayersOf) (d d' : FillOf)
     (t : Top) (pin : Option ℕ) (pinned : List ℕ) (seams : ℕ) →
     Holds tape closed d (Some t) pin pinned seams → Below tape xs →
@@ -70,6 +73,7 @@ held-closed tape cycle xs closed closed' d d' t pin pinned seams h b el er = rec
       let e = h.total in omega (arith, s, r, e));
 }
 
+-- the same by its parts
 pub held-closed-at : (tape n cycle end seams' : ℕ) (xs : List ℕ) (closed closed' : LayersOf)
     (d d' : FillOf) (top : Option Top) (pin : Option ℕ) (pinned : List ℕ) (seams : ℕ) →
     IsTrue (is_some top) → Holds tape closed d top pin pinned seams →
@@ -87,6 +91,7 @@ held-closed-at tape n cycle end seams' xs closed closed' d d' (Some t) pin pinne
 none-some : (r : Option Top) (t : Top) → r ≡ None → r ≡ Some t → ⊥
 none-some r t e f = (cc)
 
+-- and so whether a layer was open or not
 pub stack-closed-at : (tape : TapeOf) (closed closed' : LayersOf) (d d' : FillOf) (top : Option Top)
     (t : Top) (pin : Option ℕ) (pinned : List ℕ) (cut : Option ℕ) (xs : List ℕ)
     (cycle end seams' : ℕ) → top ≡ Some t → MayBeOpen tape.len closed d top pin pinned →

@@ -47,6 +47,7 @@ stack-extended-on true tape closed d d' cycle end pin pinned lt b ec es ef er =
     rw (ec, es, ef, er, marked-extended d.floor d.cells (current_list closed.layers) b) refl
 stack-extended-on false tape closed d d' cycle end pin pinned lt b ec es ef er = grind (arith, lt)
 
+-- the base behind the open layer
 pub stack-extended : (tape : TapeOf) (closed : LayersOf) (d d' : FillOf) (top : Option Top)
     (pin : Option ℕ) (pinned : List ℕ) (ps : List Piece) (more : ℕ) → IsTrue (is_some top) →
     0 < current_base_length (stacked top d closed.layers) → Ordered closed.layers →
@@ -62,6 +63,7 @@ stack-extended tape closed d d' (Some t) pin pinned ps more w lt o m ex em ed =
     (list-below d.floor closed.layers le o) (rw (ed, ex) refl) (rw (ed, em) refl) (rw ed refl)
     (rw ed refl)
 
+-- the current list of closed layers is below the floor
 pub open-floor : (tape : ℕ) (closed : LayersOf) (d : FillOf) (top : Option Top) (pin : Option ℕ)
     (pinned xs : List ℕ) → IsTrue (is_some top) → Ordered closed.layers →
         MayBeOpen tape closed d top pin pinned → xs ≡ current_list closed.layers → Below d.floor xs
@@ -73,6 +75,7 @@ pub ruleset extends = (based, stack-extended, open-floor, current-total)
 
 pub ruleset ends = (extended-mapped, extension-mapped, extended_if-mapped)
 
+-- the seams with the open layer
 pub open-total : (top : Option Top) (d : FillOf) (closed : List (Layer ℕ)) → IsTrue (is_some top) →
     total_seams (stacked top d closed) ≡ d.seams + total_seams closed
 open-total None d closed w = grind (arith, w)

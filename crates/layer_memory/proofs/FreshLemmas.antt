@@ -55,6 +55,7 @@ at-once floor (suc k) (x ∷ xs) lt o le = (
   at-once floor k xs (omega (arith, lt)) o.1 le,
 )
 
+-- a fresh address stands nowhere else
 pub alone : (tape : TapeOf) (closed : LayersOf) (d : FillOf) (t : Top) (pin : Option ℕ)
     (pinned : List ℕ) (seams place a : ℕ) → Holds tape.len closed d (Some t) pin pinned seams →
     IsFill d → place < length d.cells → a ≡ get_or d.cells place 0 → d.floor ≤ a →
@@ -77,6 +78,7 @@ alone tape closed d t pin pinned seams place a h i lt e le =
           (pin-below d.floor (pin_of pin pinned) h.opened.pin_within);
     }
 
+-- and so whether a layer is open or not
 pub alone-in : (tape : TapeOf) (closed : LayersOf) (d : FillOf) (top : Option Top) (pin : Option ℕ)
     (pinned : List ℕ) (seams place a : ℕ) → IsTrue (is_some top) →
     Holds tape.len closed d top pin pinned seams → IsFill d → place < length d.cells →
@@ -93,12 +95,14 @@ stale floor k [] lt = grind arith
 stale floor zero (x ∷ xs) lt = refl
 stale floor (suc k) (x ∷ xs) lt = stale floor k xs (omega (arith, lt))
 
+-- a place of the list is one of the open layer
 pub place-in : (top : Option Top) (d : FillOf) (closed : List (Layer ℕ)) (place : ℕ) →
     IsTrue (is_some top) → place < current_length (stacked top d closed) → place < length d.cells
 place-in None d closed place w lt = grind (arith, w)
 place-in (Some t) d closed place w lt = let h = length-map d.cells (marked_cell d.floor) in
     omega (arith, h, lt)
 
+-- whether the cell at a place is fresh
 pub stale-in : (top : Option Top) (d : FillOf) (closed : List (Layer ℕ)) (place : ℕ) →
     IsTrue (is_some top) → place < length d.cells →
     is_fresh (slice_get (current_cells (stacked top d closed)) place) ≡ nat_le d.floor
@@ -126,6 +130,7 @@ marked-append : (floor : ℕ) (xs : List ℕ) (a : ℕ) → floor ≤ a →
 marked-append floor [] a le = rw (fresh-marked floor a le) refl
 marked-append floor (x ∷ xs) a le = ap (λ t. marked_cell floor x ∷ t) (marked-append floor xs a le)
 
+-- marks with a fresh cell written
 pub marked-written : (floor : ℕ) (how : How) (place a : ℕ) (xs : List ℕ) → floor ≤ a →
     marked floor (with_address how place a xs) ≡ with_cell how place (fresh_cell a)
     (marked floor xs)

@@ -20,10 +20,12 @@ pub below-more : (m n : ℕ) (xs : List ℕ) → m ≤ n → Below m xs → Belo
 below-more m n [] le b = tt
 below-more m n (x ∷ xs) le b = (omega (arith, le, b.0), below-more m n xs le b.1)
 
+-- the end from which redo layers go on is on the tape
 pub end-within : (tape end : ℕ) (redo : List (Layer ℕ)) → GoesOn tape end redo → end ≤ tape
 end-within tape end [] g = g
 end-within tape end (l ∷ ls) g = let h = end-within tape l.end ls g.1.1 in omega (arith, h, g.0)
 
+-- the current seams are some of all
 pub current-total : (ls : List (Layer ℕ)) → current_seams ls ≤ total_seams ls
 current-total [] = omega arith
 current-total (l ∷ ls) = let h = sum_by-cons seams_of l ls in omega (arith, h)
@@ -36,31 +38,37 @@ low-below : (n : ℕ) (l : Layer ℕ) → l.end ≤ n → IsLow l → LayerBelow
 low-below n l le w =
     (below-more l.end n (contents l.cells) le w.below, no-base-below n l.base w.no_base)
 
+-- layers in order are below a number that the current one is below
 pub ordered-below : (n : ℕ) (ls : List (Layer ℕ)) → current_end ls ≤ n → Ordered ls →
     AllByRecursion (LayerBelow n) ls
 ordered-below n [] le o = tt
 ordered-below n (l ∷ ls) le o =
     (low-below n l le o.1.0, ordered-below n ls (omega (arith, le, o.0)) o.1.1)
 
+-- so are redo layers
 pub redo-below : (n end : ℕ) (ls : List (Layer ℕ)) → GoesOn n end ls →
     AllByRecursion (LayerBelow n) ls
 redo-below n end [] g = tt
 redo-below n end (l ∷ ls) g =
     (low-below n l (end-within n l.end ls g.1.1) g.1.0, redo-below n l.end ls g.1.1)
 
+-- and so is the pin
 pub pin-below : (n : ℕ) (p : Option (Pin ℕ)) → PinWithin n p → PinBelow n p
 pin-below n None w = tt
 pin-below n (Some p) w = below-more p.tape n p.list w.0 w.1
 
+-- marks leave the addresses
 pub contents-marked : (floor : ℕ) (xs : List ℕ) → contents (marked floor xs) ≡ xs
 contents-marked floor [] = refl
 contents-marked floor (x ∷ xs) = ap (λ t. x ∷ t) (contents-marked floor xs)
 
+-- the current list is below where its end is
 pub list-below : (n : ℕ) (ls : List (Layer ℕ)) → current_end ls ≤ n → Ordered ls →
     Below n (current_list ls)
 list-below n [] le o = tt
 list-below n (l ∷ ls) le o = below-more l.end n (contents l.cells) le o.1.0.below
 
+-- so is the base
 pub base-below : (n : ℕ) (over : Bool) (ls : List (Layer ℕ)) → current_end ls ≤ n → Ordered ls →
     Below n (base_on over ls)
 base-below n true ls le o = list-below n ls le o
@@ -79,6 +87,7 @@ stacked-below tape closed d (Some t) pin pinned i o le m = (
   ordered-below tape closed.layers le o,
 )
 
+-- all addresses are below the tape length
 pub holds-low : (tape : TapeOf) (closed : LayersOf) (d : FillOf) (top : Option Top) (pin : Option ℕ)
     (pinned : List ℕ) (seams : ℕ) → Holds tape.len closed d top pin pinned seams → IsFill d →
     StackBelow tape.len (held_by tape closed d top pin pinned).stack
@@ -90,6 +99,7 @@ holds-low tape closed d top pin pinned seams h i =
       pin = pin-below tape.len (pin_of pin pinned) h.pin_within;
     }
 
+-- below the floor no cell is fresh
 pub marked-below : (floor : ℕ) (xs : List ℕ) → Below floor xs → marked floor xs ≡ old_cells xs
 marked-below floor [] b = refl
 marked-below floor (x ∷ xs) b = let e : nat_le floor x ≡ false = grind (arith, b.0) in

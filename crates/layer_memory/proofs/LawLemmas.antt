@@ -68,6 +68,7 @@ undone-layers : (ls : List (Layer Sound)) (s : Stack Sound) → s.layers ≡ ls 
 undone-layers [] s e = rw e refl
 undone-layers (l ∷ ls) s e = rw e refl
 
+-- undo gives back the list from before an opening
 pub undo-opening : (s t : Stack Sound) (empty : Bool) (cut : Option ℕ) →
     AreWrites (opened empty s) t →
     current_list (undone (finished cut t)).layers ≡ current_list s.layers
@@ -105,6 +106,7 @@ pin-stays s t (drops u w) = pin-stays s u w
 pin-stays s t (undoes u w) = trans (pin-undone u.layers u refl) (pin-stays s u w)
 pin-stays s t (redoes u w) = trans (pin-redone u.redo u refl) (pin-stays s u w)
 
+-- what was pinned is what is saved
 pub saved-pinned : (s t : Stack Sound) → AreChanges (pinned s) t →
     pinned_list t.pin ≡ current_list s.layers
 saved-pinned s t w = rw (pin-stays (pinned s) t w) refl

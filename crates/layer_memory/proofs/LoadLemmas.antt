@@ -32,6 +32,7 @@ use Rattle.layer_memory.proofs.ReadLemmas.{get-mapped}
 use Rattle.layer_memory.proofs.SpanLemmas.{piece-at, length-piece}
 use Rattle.layer_memory.proofs.WriteLemmas.{pin-more}
 
+-- equal to an equal
 pub trans : {A : Type 0} {x y z : A} → x ≡ y → y ≡ z → x ≡ z
 trans e f = rw e f
 
@@ -155,6 +156,7 @@ loaded-frames t t' p p' xs a =
     let r = get_or-range_with_len t.len (length xs) i 0 within in
     trans g (trans (ap (at t' p') r) (a.new i within)))
 
+-- a list that is loaded, with the pool
 pub loaded-seen : (h h' : Held) (p p' : PoolOf) (xs : List Sound) (cycle : ℕ) →
     h'.stack ≡ loaded (range_with_len h.stack.tape (length xs)) cycle h.stack →
     h.stack.tape ≡ h.tape.len → StackBelow h.tape.len h.stack → Appended h.tape h'.tape p p' xs →
@@ -169,6 +171,7 @@ loaded-seen h h' p p' xs cycle e n b a =
     (trans (ap (λ ys. loaded ys cycle (stack_map f h.stack)) list)
     (ap (λ s. loaded xs cycle s) agree)))
 
+-- and all that a loading leaves
 pub loads_list : (h h' : Held) (p p' : PoolOf) (xs : List Sound) (cycle : ℕ) →
     h'.stack ≡ loaded (range_with_len h.stack.tape (length xs)) cycle h.stack → h'.writing ≡ false →
     h.stack.tape ≡ h.tape.len → StackBelow h.tape.len h.stack → IsWhole h'.tape →

@@ -64,6 +64,7 @@ pub copied : (n : ℕ) (ls : List (Layer ℕ)) (d : FillOf) → 0 < length ls �
 copied n [] d lt b ec ef es = grind arith
 copied n (l ∷ ls) d lt b ec ef es = rw (ec, ef, es, marked-below n (contents l.cells) b) refl
 
+-- an opening, with the pool
 pub opened-seen : (h h' : Held) (p p' : PoolOf) (empty : Bool) → h'.stack ≡ opened empty h.stack →
     h'.stack.tape ≡ h'.tape.len → StackBelow h'.tape.len h'.stack → Cut h.tape h'.tape p p' →
     seen h' p' ≡ opened empty (seen h p)
@@ -71,11 +72,13 @@ opened-seen h h' p p' empty e n b c =
     let agree = stack-agrees (at h'.tape p') (at h.tape p) h'.tape.len h'.stack c.kept b in
     rw (agree, e) (opened-mapped (at h.tape p) empty h.stack)
 
+-- an opening keeps the tape's own
 pub opened-keeps : (h h' : Held) (p p' : PoolOf) → IsWhole h'.tape → Cut h.tape h'.tape p p' →
     Keeps h h' p p'
 opened-keeps h h' p p' whole c =
     record { owns = c.owned; whole = whole; others = c.others; reached = c.chunks; all = c.all }
 
+-- and all that an opening leaves
 pub opens : (h h' : Held) (p p' : PoolOf) (empty : Bool) → h'.stack ≡ opened empty h.stack →
     h'.writing ≡ true → h'.stack.tape ≡ h'.tape.len → IsWhole h'.tape →
     StackBelow h'.tape.len h'.stack → Cut h.tape h'.tape p p' → Opens empty h h' p p'

@@ -19,10 +19,12 @@ use Rattle.layer_memory.proofs.SeenLemmas.{pinned-mapped, unpinned-mapped, pinne
 use Rattle.layer_memory.proofs.KeptLemmas.{contents-marked, end-within, current-total, list-below, marked-below}
 use Rattle.layer_memory.proofs.ReadLemmas.{get-mapped, below-at, span-mapped}
 
+-- the pinned list is below where its pin is
 pub pinned-below : (n : ℕ) (p : Option (Pin ℕ)) → PinBelow n p → Below n (pinned_list p)
 pinned-below n None b = tt
 pinned-below n (Some p) b = b
 
+-- each of its addresses is
 pub saved-below : (n place : ℕ) (s : Stack ℕ) → StackBelow n s →
     place < length (pinned_list s.pin) → get_or (pinned_list s.pin) place 0 < n
 saved-below n place s b lt = below-at n place (pinned_list s.pin) lt (pinned-below n s.pin b.pin)
@@ -33,6 +35,7 @@ saved-mapped : {A B : Type 0} (f : A → B) (p : Option (Pin A)) (place : ℕ) (
 saved-mapped f None place a b lt = grind arith
 saved-mapped f (Some p) place a b lt = get-mapped f p.list place a b lt
 
+-- a frame of it, with the pool
 pub saved-seen : (h : Held) (p : PoolOf) (place : ℕ) → place < length (pinned_list h.stack.pin) →
     get_or (pinned_list (seen h p).pin) place silence ≡ at h.tape p
     (get_or (pinned_list h.stack.pin) place 0)
@@ -45,6 +48,7 @@ current-unmarked : (ls : List (Layer ℕ)) → Ordered ls → with_current unmar
 current-unmarked [] o = refl
 current-unmarked (l ∷ ls) o = ap (λ (x : Layer ℕ). x ∷ ls) (unmarked-same l o.1.0.not_fresh)
 
+-- a pin on closed layers is the rules' pin
 pub stack-pinned-closed : (tape : TapeOf) (closed : LayersOf) (d : FillOf) (top : Option Top)
     (pin : Option ℕ) (pinned_before xs : List ℕ) (n : ℕ) → IsFalse (is_some top) →
     Ordered closed.layers → xs ≡ current_list closed.layers → n ≡ tape.len →
@@ -54,6 +58,7 @@ stack-pinned-closed tape closed d (Some t) pin pinned_before xs n w o ex en = gr
 stack-pinned-closed tape closed d None pin pinned_before xs n w o ex en =
     rw (ex, en, current-unmarked closed.layers o) refl
 
+-- what always holds, with that pin
 pub held-pinned-closed : (tape n : ℕ) (closed : LayersOf) (d : FillOf) (top : Option Top)
     (pin : Option ℕ) (pinned_before xs : List ℕ) (seams : ℕ) → IsFalse (is_some top) →
     Holds tape closed d top pin pinned_before seams → xs ≡ current_list closed.layers → n ≡ tape →
@@ -75,6 +80,7 @@ marks-cleared : (floor : ℕ) (xs : List ℕ) (next : ℕ) → Below next xs →
     marked next xs ≡ unmarked (marked floor xs)
 marks-cleared floor xs next b = rw (contents-marked floor xs, marked-below next xs b) refl
 
+-- a pin on an open layer is the rules' pin
 pub stack-pinned-open : (tape : TapeOf) (closed : LayersOf) (d d' : FillOf) (top : Option Top)
     (pin : Option ℕ) (pinned_before xs : List ℕ) (n : ℕ) → IsTrue (is_some top) →
     Below d.next d.cells → d' ≡ fill_frozen d → xs ≡ d.cells → n ≡ tape.len →
@@ -84,6 +90,7 @@ stack-pinned-open tape closed d d' None pin pinned_before xs n w b ed ex en = gr
 stack-pinned-open tape closed d d' (Some t) pin pinned_before xs n w b ed ex en =
     rw (ed, ex, en, marks-cleared d.floor d.cells d.next b, contents-marked d.floor d.cells) refl
 
+-- what always holds, with that pin
 pub held-pinned-open : (tape n : ℕ) (closed : LayersOf) (d d' : FillOf) (top : Option Top)
     (pin : Option ℕ) (pinned_before xs : List ℕ) (seams : ℕ) → IsTrue (is_some top) → IsFill d →
     Holds tape closed d top pin pinned_before seams → d' ≡ fill_frozen d → xs ≡ d.cells → n ≡ tape →

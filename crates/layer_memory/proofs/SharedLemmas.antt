@@ -24,6 +24,7 @@ open-pieced : (t : Top) (d : FillOf) (closed : List (Layer ℕ)) → IsFill d �
 open-pieced t d closed i = record { pieces = d.pieces; solid = i.solid; same =
     rw (contents-marked d.floor d.cells) (sym i.cells); few = i.few }
 
+-- what layers that share a tape always keep
 pub shared : (tape : TapeOf) (closed : LayersOf) (d : FillOf) (top : Option Top) (pin : Option ℕ)
     (pinned : List ℕ) (seams : ℕ) → IsWhole tape → Holds tape.len closed d top pin pinned seams →
     IsFill d → AllByRecursion IsPieced closed.layers → AllByRecursion IsPieced closed.redo →

@@ -15,10 +15,12 @@ use Rattle.layer_memory.specs.Measures.{AreSizes}
 use Rattle.layer_memory.proofs.SeenLemmas.{lengths-mapped, cycle-mapped, bases-mapped, layers-mapped, total-mapped}
 use Rattle.layer_memory.proofs.ReadLemmas.{length-list}
 
+-- the length with an open layer
 pub open-length : (t : Top) (d : FillOf) (closed : List (Layer ℕ)) →
     current_length (stacked (Some t) d closed) ≡ length d.cells
 open-length t d closed = length-map d.cells (marked_cell d.floor)
 
+-- the length without one
 pub closed-length : (closed : List (Layer ℕ)) → current_length closed ≡ length (current_list closed)
 closed-length closed = sym (length-list closed)
 

@@ -19,6 +19,7 @@ piece-at p k lt =
     get_or-range_with_len 0 p.len k 0 lt in omega (arith, g) in
     rw f at e
 
+-- a piece has as many addresses as it says
 pub length-piece : (p : Piece) → length (piece_addresses p) ≡ p.len
 length-piece p = let a = length-map (range_with_len 0 p.len) (address_in p) in
     let b = length-range_with_len 0 p.len in omega (arith, a, b)
@@ -57,6 +58,7 @@ pub read-ahead : (f : ℕ → Sound) (p : Piece) (n : ℕ) (out : List Sound) �
 read-ahead f p n out e en eb at_k =
     read-addresses f p out (omega (arith, e, en)) (λ k lt. rw eb (at_k k (omega (arith, lt, en))))
 
+-- frames read backward are those of the piece
 pub read-back : (f : ℕ → Sound) (p : Piece) (n : ℕ) (out : List Sound) → length out ≡ n →
     n ≡ p.len → p.backward ≡ true → ((k : ℕ) → k < n → get_or out k silence ≡ f (p.start - k)) →
     out ≡ map f (piece_addresses p)

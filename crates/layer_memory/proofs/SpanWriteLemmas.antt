@@ -86,6 +86,7 @@ new-fits : {A : Type 0} (reach : ℕ) (s : Stack A) → s.tape % 4096 ≢ 0 → 
     new_cell_fits reach Forward s ≡ true
 new-fits reach s ne on = rw (has-room reach s.tape ne, on) refl
 
+-- new cells in a row fit
 pub new_fit : {A : Type 0} (xs : List A) (reach place : ℕ) (s : Stack A) → is_some s.streak ≡ true →
     IsWithin (length xs) s.tape → AreMarked false (length xs) place s.layers →
     AllFit reach xs place s
@@ -99,6 +100,7 @@ new_fit (x ∷ xs) reach place s on w m =
     (within-next (length xs) s.tape w) (marked-next false (length xs) place _ x s.layers m) in
     (first, rw stale rest)
 
+-- new cells in a row are so many writes
 pub new_written : {A : Type 0} (xs : List A) (place : ℕ) (s : Stack A) →
     AreMarked false (length xs) place s.layers → newly_on xs place s ≡ written_span xs place s
 new_written [] place s m = refl
@@ -172,6 +174,7 @@ stack-span (suc k) tape tape' closed d d' top pin pinned place seams w on le h n
     (omega (arith, le)) held (omega (arith, n)) e in
     trans rest (ap (λ t. newly_written_span k (place + 1) (tape.len + 1) t) one)
 
+-- what always holds, with a row written
 pub held-span-in : (k tape n : ℕ) (closed : LayersOf) (d d' : FillOf) (top : Option Top)
     (pin : Option ℕ) (pinned : List ℕ) (place seams : ℕ) → IsTrue (is_some top) →
     IsTrue (is_some d.streak) → Holds tape closed d top pin pinned seams → n ≡ tape + k →
@@ -181,6 +184,7 @@ held-span-in k tape n closed d d' top pin pinned place seams w on h en ed =
         (held-span k tape closed d top pin pinned place seams w (is-true (is_some d.streak) on)
     h)
 
+-- the stack with a row written
 pub stack-span-in : (k : ℕ) (tape tape' : TapeOf) (closed : LayersOf) (d d' : FillOf)
     (top : Option Top) (pin : Option ℕ) (pinned : List ℕ) (place seams : ℕ) → IsTrue (is_some top) →
     IsTrue (is_some d.streak) → d.floor ≤ d.next → Holds tape.len closed d top pin pinned seams →
@@ -335,6 +339,7 @@ over-all (x ∷ xs) f g n place a s some b al m o =
     trans (over-seen (x ∷ xs) g f n place a s b al m o)
     (broken-same x xs place (stack_map f s) fresh)
 
+-- a row over fresh cells
 pub rewrites-span : (h h' : Held) (p p' : PoolOf) (place a : ℕ) (xs : List Sound) →
     h'.stack ≡ streak_broken h.stack → h'.tape ≡ h.tape → h'.writing ≡ true → 1 ≤ length xs →
     AreMarked true (length xs) place h.stack.layers → StackBelow h.tape.len h.stack →
@@ -370,6 +375,7 @@ pub marked-row : (top : Option Top) (d : FillOf) (closed : List (Layer ℕ)) (b 
 marked-row top d closed b n place w le at k lt =
     trans (stale-in top d closed (place + k) w (omega (arith, le, lt))) (at k lt)
 
+-- a row of fresh cells
 pub fresh-rows : (floor a n place : ℕ) (cells : List ℕ) → a ≡ get_or cells place 0 →
     (1 ≤ n → floor ≤ get_or cells place 0) →
     ((k : ℕ) → k < n → get_or cells (place + k) 0 ≡ get_or cells place 0 + k) → (k : ℕ) → k < n →
@@ -380,6 +386,7 @@ fresh-rows floor a n place cells e first row k lt =
     let le : floor ≤ get_or cells (place + k) 0 = omega (arith, r, f) in
     grind (arith, le)
 
+-- each of its addresses stands nowhere else
 pub alone-row : (tape : TapeOf) (closed : LayersOf) (d : FillOf) (top : Option Top) (pin : Option ℕ)
     (pinned : List ℕ) (seams place a n : ℕ) → IsTrue (is_some top) →
     Holds tape.len closed d top pin pinned seams → IsFill d → place + n ≤ length d.cells →
@@ -400,6 +407,7 @@ take-first [] (suc a) (suc b) le = refl
 take-first (x ∷ xs) (suc a) zero le = absurd (omega (arith, le))
 take-first (x ∷ xs) (suc a) (suc b) le = ap (λ t. x ∷ t) (take-first xs a b (omega (arith, le)))
 
+-- a row of new cells
 pub pushes-row : (k : ℕ) (h h' : Held) (p p' : PoolOf) (place most old : ℕ) (xs : List Sound) →
     k ≤ most → most ≤ length xs → most ≤ old → IsTrue h.writing → TapeOwns h.tape p →
     IsWhole h.tape → (k ≡ 0 → (h' ≡ h) × (p' ≡ p)) → (1 ≤ k → IsTrue (is_some h.stack.streak)) →

@@ -50,11 +50,13 @@ pushed-seen h h' p p' how place x e m b c =
     (trans (ap (λ s. newly_written how place x s) agree)
     (written-new how place x (stack_map (at h.tape p) h.stack) stale))))
 
+-- a frame more keeps the tape's own
 pub push-keeps : (h h' : Held) (p p' : PoolOf) (x : Sound) → IsWhole h'.tape →
     Pushed h.tape h'.tape p p' x → Keeps h h' p p'
 push-keeps h h' p p' x whole c =
     record { owns = c.owned; whole = whole; others = c.others; reached = c.chunks; all = c.all }
 
+-- a new cell written
 pub pushes : (h h' : Held) (p p' : PoolOf) (how : How) (place : ℕ) (x : Sound) →
     h'.stack ≡ newly_written how place h.tape.len h.stack → h'.writing ≡ true →
     meets_fresh how place h.stack ≡ false → new_cell_fits (reach h p) how h.stack ≡ true →
@@ -67,6 +69,7 @@ pushes h h' p p' how place x e w m fit b whole c = record {
   keeps = push-keeps h h' p p' x whole c;
 }
 
+-- a write that does not fit
 pub refuses : (h h' : Held) (p p' : PoolOf) (how : How) (place : ℕ) → h' ≡ h → p' ≡ p →
     meets_fresh how place h.stack ≡ false → new_cell_fits (reach h p) how h.stack ≡ false →
     Refuses how place h h' p p'
@@ -93,6 +96,7 @@ rewrites h h' p p' how place a x e et w o m bl al off on k = record {
   keeps = k;
 }
 
+-- a pin within fewer frames is within more
 pub pin-more : (m n : ℕ) (p : Option (Pin ℕ)) → m ≤ n → PinWithin m p → PinWithin n p
 pin-more m n None le w = tt
 pin-more m n (Some p) le w = (omega (arith, le, w.0), w.1)
@@ -137,6 +141,7 @@ stack-pushed tape tape' closed d d' None pin pinned how place w le m n e = grind
 stack-pushed tape tape' closed d d' (Some t) pin pinned how place w le m n e =
     rw (n, sym m.next, e, marked-written d.floor how place d.next d.cells le) refl
 
+-- what always holds, with a new cell
 pub held-pushed-in : (tape : ℕ) (closed : LayersOf) (d d' : FillOf) (top : Option Top)
     (pin : Option ℕ) (pinned : List ℕ) (how : How) (place seams seams' n : ℕ) →
     IsTrue (is_some top) → Holds tape closed d top pin pinned seams →

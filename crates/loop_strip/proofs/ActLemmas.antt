@@ -68,11 +68,13 @@ base_in Muted ls redo pos backward h = closed_base ls h.0.0
 base_in OneShot ls redo pos backward h = closed_base ls h.0.0
 base_in Paused ls redo pos backward h = closed_base ls h.0.0
 
+-- the base is no longer than the list
 pub base_within : (s : Parts) → IsWhole s →
     (face_of (loop_of s)).base ≤ (face_of (loop_of s)).length
 base_within s w = base_in s.deck.mode s.layers.stack.layers s.layers.stack.redo s.deck.pos
     s.deck.backward w.loop.in_mode
 
+-- nor in the face
 pub base_of_face : (s : Parts) (face : Face) → IsWhole s → face ≡ face_of (loop_of s) →
     face.base ≤ face.length
 base_of_face s face w is = subst (λ (f : Face). f.base ≤ f.length) (sym is) (base_within s w)
@@ -85,6 +87,7 @@ drop_at zero (y ∷ ys) x less is = ap (λ z. z ∷ ys) (sym is)
 drop_at (suc i) (y ∷ ys) x less is = let more : suc i + 1 ≡ suc (i + 1) = omega arith in
     rw more (drop_at i ys x (omega arith) is)
 
+-- before any move is made
 pub carried_first : (verb : Verb) (round : Bool) (face : Face) (moves : List Move) (s : Parts)
     (p : PoolOf) → Owns (strip_of s) p → IsWhole s → face ≡ face_of (loop_of s) →
     moves ≡ moves_of verb round face →
@@ -109,6 +112,7 @@ next_allowed i moves first now p p' next less is h =
     subst (λ ms. AreAllowed (reach_in (strip_of first) p) ms (loop_of now))
     (drop_at i moves next less is) h.allowed in here).0
 
+-- one move more
 pub carried_more : (i : ℕ) (moves : List Move) (first now then : Parts) (p p1 p2 : PoolOf)
     (next : Move) → i < length moves → next ≡ get_or moves i next →
     IsCarried i moves first now p p1 →
@@ -141,6 +145,7 @@ drop_all (suc n) [] is = absurd (omega arith)
 drop_all zero (x ∷ xs) is = absurd (omega arith)
 drop_all (suc n) (x ∷ xs) is = drop_all n xs (omega arith)
 
+-- once all moves are made
 pub acted : (n : ℕ) (verb : Verb) (moves : List Move) (s s' : Parts) (p p' : PoolOf) →
     n ≡ length moves → IsCarried n moves s s' p p' →
     carry_all (reach_in (strip_of s) p) moves (seen (strip_of s) p) ≡ acts verb
@@ -154,10 +159,12 @@ acted n verb moves s s' p p' all h table = record {
   others = h.others;
 }
 
+-- the face is the same with the pool
 pub face_in : (s : Parts) (p : PoolOf) (face : Face) → face ≡ face_of (loop_of s) →
     face_of (seen (strip_of s) p) ≡ face
 face_in s p face is = seen_face (strip_of s) p ∙ sym is
 
+-- and so is the control of rounding
 pub round_in : (s : Parts) (p : PoolOf) (round : Bool) → (s.controls.round == 0) ≡ not round →
     ((seen (strip_of s) p).controls.round == 0) ≡ not round
 round_in s p round is = ap (λ (c : Controls). c.round == 0) (seen_controls (strip_of s) p) ∙ is
@@ -193,6 +200,7 @@ whole_held press s s' w is layers pinned = record {
   controls = subst AreControls (sym (ap (λ (l : Loop ℕ). l.controls) is)) w.controls;
 }
 
+-- a verb waits, or none
 pub did_waits : (verb : Option Verb) (s s' : Parts) (p : PoolOf) → Owns (strip_of s) p →
     s'.layers.tape ≡ s.layers.tape → IsShared s'.layers →
     loop_of s' ≡ with_waiting verb (loop_of s) →
@@ -200,6 +208,7 @@ pub did_waits : (verb : Option Verb) (s s' : Parts) (p : PoolOf) → Owns (strip
 did_waits verb s s' p o tape shared is = did_as (λ reach. with_waiting verb)
     (λ reach. with_waiting verb) s s' p o tape shared (λ f reach l. refl) is
 
+-- a verb is held, or none
 pub did_held : (press : Option Press) (s s' : Parts) (p : PoolOf) → Owns (strip_of s) p →
     s'.layers.tape ≡ s.layers.tape → IsShared s'.layers →
     loop_of s' ≡ with_press press (loop_of s) →

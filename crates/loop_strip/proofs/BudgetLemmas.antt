@@ -458,6 +458,7 @@ ample_seen n s p h =
           (sym (lengths-mapped f s.layers.stack.layers)) h.goes_on;
     })
 
+-- a loop that writes, with ample room, is quiet
 pub quiet_ample : (n : ℕ) (s : Parts) → IsWhole s → is_writing s.deck.mode ≡ true → 1 ≤ n →
     (1 ≤ n → IsAmple n (loop_of s)) → IsQuietFor n (strip_of s)
 quiet_ample n s w writing some ample = λ p x xs reach less.
@@ -497,6 +498,7 @@ shot_quiet (suc n) (x ∷ xs) l h few =
           (ahead_next n l.deck.backward l.deck.pos (length_of l) h) (omega (arith, few))),
     )
 
+-- a OneShot is quiet up to its border
 pub quiet_shot : (n : ℕ) (s : Parts) → s.deck.mode ≡ OneShot → 1 ≤ n →
     IsAhead n s.deck.backward s.deck.pos (length_of (loop_of s)) → IsQuietFor n (strip_of s)
 quiet_shot n s is some h = λ p x xs reach less.

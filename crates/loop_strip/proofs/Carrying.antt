@@ -9,6 +9,7 @@ use Rattle.loop_strip.specs.Strips.{seen, reach_in, Owns, OthersStay}
 use Rattle.loop_strip.specs.Parts.{loop_of, strip_of, IsWhole}
 use Rattle.loop_strip.proofs.Allowed.{AreAllowed}
 
+-- so many moves were made, and those that are left lead to the end
 pub record IsCarried (done : ℕ) (moves : List Move) (first now : Parts)
     (p p' : PoolOf) : Type 0 where
   pub left : carry_all (reach_in (strip_of first) p) (drop done moves) (seen (strip_of now) p')

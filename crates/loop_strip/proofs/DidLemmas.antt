@@ -22,21 +22,26 @@ pub seen-is : (s : StripOf) (p : PoolOf) → seen s p ≡ loop_map (at s.tape p)
 unfolding seen
 seen-is s p = refl
 
+-- the tape length is the same with the pool
 pub seen_tape : (s : StripOf) (p : PoolOf) → (seen s p).stack.tape ≡ s.loop.stack.tape
 unfolding seen
 seen_tape s p = refl
 
+-- so is the deck
 pub seen_deck : (s : StripOf) (p : PoolOf) → (seen s p).deck ≡ s.loop.deck
 unfolding seen
 seen_deck s p = refl
 
+-- so are the controls
 pub seen_controls : (s : StripOf) (p : PoolOf) → (seen s p).controls ≡ s.loop.controls
 unfolding seen
 seen_controls s p = refl
 
+-- so is the face
 pub seen_face : (s : StripOf) (p : PoolOf) → face_of (seen s p) ≡ face_of s.loop
 seen_face s p = ap face_of (seen-is s p) ∙ face-mapped (at s.tape p) s.loop
 
+-- what a strip reaches, by its tape length
 pub reach-is : (s : StripOf) (p : PoolOf) → reach_in s p ≡ free_in p + chunks_of s.loop.stack.tape
 reach-is s p = ap (λ t. free_in p + chunks_of t) (seen_tape s p)
 
@@ -142,6 +147,7 @@ did_owned act addressed s s' p o own' tape natural is =
       };
     }
 
+-- a call that changes no frame does to the loop of frames what it does to that of addresses
 pub did_as : (act : ℕ → Loop Sound → Loop Sound) (addressed : ℕ → Loop ℕ → Loop ℕ) (s s' : Parts)
     (p : PoolOf) → Owns (strip_of s) p → s'.layers.tape ≡ s.layers.tape → IsShared s'.layers →
     ((f : ℕ → Sound) (reach : ℕ) (l : Loop ℕ) →

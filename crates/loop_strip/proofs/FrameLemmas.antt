@@ -46,6 +46,7 @@ seen_keeps s p w =
     (keeps_there (at s.layers.tape p) (loop_of s)
     (whole_keeps r s (within_reach (strip_of s) p) w))
 
+-- what keeps a loop keeps the parts whole
 pub whole_did : (act : ℕ → Loop Sound → Loop Sound) (s s' : Parts) (p p' : PoolOf) →
     ((a : Unchanged) (l : Loop Sound) → KeepsLoop a l → KeepsLoop a (act a.reach l)) → IsWhole s →
     Did act (strip_of s) (strip_of s') p p' → s'.pinned ≡ s.pinned →
@@ -61,6 +62,7 @@ whole_did act s s' p p' keeps w d pinned writing =
 pub seen_stack : (s : Parts) (p : PoolOf) → (seen (strip_of s) p).stack ≡ seen_layers s.layers p
 seen_stack s p = ap (λ (l : Loop Sound). l.stack) (seen-is (strip_of s) p)
 
+-- a loop that waits is woken
 pub did_woken : (s s' : Parts) (p p' : PoolOf) →
     Ok ≡ opening (reach s.layers p) true (seen_layers s.layers p) → Owns (strip_of s) p →
     Did opens_record (strip_of s) (strip_of s') p p' →
@@ -71,6 +73,7 @@ did_woken s s' p p' answers o d =
     ap₂ (λ r t. opening r true t) (sym (reaches s p o)) (seen_stack s p) ∙ sym answers
     in did_also (ap (λ a. records a l) answer ∙ sym (ap (λ a. wakes_as a l) answer)) d
 
+-- a loop that waits is refused
 pub did_missed : (s s' : Parts) (h : Held) (p p' : PoolOf) (answer : Started) →
     Owns (strip_of s) p → answer ≡ opening (reach s.layers p) true (seen_layers s.layers p) →
     Same s.layers h p p' → s'.layers ≡ h →
@@ -83,6 +86,7 @@ did_missed s s' h p p' answer o answers same layers is leads =
     in did_refused (λ a l. wakes_as a l) (λ a l. wakes_as a l) true s (layers_of s h) s' p p' answer
     (λ f a l. wakes-mapped f a l) o answers same layers to
 
+-- listening for the threshold
 pub did_awake : (x : Sound) (loud : Bool) (s s' : Parts) (p p' : PoolOf) →
     loud ≡ nat_le s.controls.rec_thresh (loudness x) → Did (awake_in s.deck.mode loud) (strip_of s)
     (strip_of s') p p' → Did (awake x) (strip_of s) (strip_of s') p p'
@@ -96,6 +100,7 @@ did_awake x loud s s' p p' is d =
     (sym (seen_controls (strip_of s) p))))
     d
 
+-- and the parts stay whole
 pub whole_awake : (x : Sound) (s s' : Parts) (p p' : PoolOf) → IsWhole s →
     Did (awake x) (strip_of s) (strip_of s') p p' → s'.pinned ≡ s.pinned →
     s'.layers.writing ≡ is_writing s'.deck.mode → IsWhole s'
@@ -112,6 +117,7 @@ in_multiply : {A : Type 0} (mode : Mode) (ls redo : List (Layer A)) (pos : ℕ) 
     mode ≡ Multiplying → InMode mode ls redo pos backward → HasCurrent IsOpenOver ls
 in_multiply mode ls redo pos backward is h = (subst (λ m. InMode m ls redo pos backward) is h).0
 
+-- a multiply has a base
 pub base_some : (s : Parts) → IsWhole s → s.deck.mode ≡ Multiplying →
     0 < current_base_length s.layers.stack.layers
 base_some s w is =
@@ -128,6 +134,7 @@ fit_is : (s : Parts) (fits : Bool) →
     fits ≡ extension_fits s.layers.stack
 fit_is s fits answers = answers no_pool ∙ extension-mapped (at s.layers.tape no_pool) s.layers.stack
 
+-- a multiply whose base does not fit
 pub extends_false : (s s' : Parts) (h : Held) (fits : Bool) → fits ≡ false →
     ((p : PoolOf) → fits ≡ extension_fits (seen_layers s.layers p)) →
     h.stack ≡ extended_if fits s.layers.stack →
@@ -138,6 +145,7 @@ extends_false s s' h fits fails answers stack is =
     (stack ∙ ap (λ b. extended_if b s.layers.stack) fails)
     ∙ ap (λ b. extends b (loop_of s)) (sym fails ∙ fit_is s fits answers)
 
+-- a multiply whose base fits
 pub extends_true : (s : Parts) (h : Held) (fits : Bool) → fits ≡ true →
     ((p : PoolOf) → fits ≡ extension_fits (seen_layers s.layers p)) →
     h.stack ≡ extended_if fits s.layers.stack →
@@ -150,6 +158,7 @@ extends_true s h fits holds answers stack =
 abbrev pub made_ready : {A : Type 0} → ℕ → Loop A → Loop A
 made_ready reach l = ready_in l.deck.mode (l.deck.pos == length_of l) l
 
+-- a loop made ready for a frame
 pub did_ready : (x : Sound) (s s1 s' : Parts) (p p' : PoolOf) →
     Did (awake x) (strip_of s) (strip_of s1) p p' → s'.layers.tape ≡ s1.layers.tape →
     IsShared s'.layers →
@@ -160,12 +169,14 @@ did_ready x s s1 s' p p' d tape shared is =
     (λ f r l. ready-mapped f l.deck.mode (l.deck.pos == length_of l) l ∙ ap
     (λ n. ready_in l.deck.mode (l.deck.pos == n) (loop_map f l)) (sym (length-mapped f l))) is)
 
+-- and the parts stay whole
 pub whole_ready : (x : Sound) (s s' : Parts) (p p' : PoolOf) → IsWhole s →
     Did (ready x) (strip_of s) (strip_of s') p p' → s'.pinned ≡ s.pinned →
     s'.layers.writing ≡ is_writing s'.deck.mode → IsWhole s'
 whole_ready x s s' p p' w d pinned writing =
     whole_did (ready x) s s' p p' (λ a l h. (ready_keeps x a.reach h).0) w d pinned writing
 
+-- a loop that is ready is placed
 pub placed_ready : (x : Sound) (s s' : Parts) (p p' : PoolOf) → IsWhole s →
     Did (ready x) (strip_of s) (strip_of s') p p' →
     IsPlaced s'.deck.mode s'.deck.pos (length_of (loop_of s'))
@@ -203,6 +214,7 @@ inside_in Inserting ls redo pos backward has placed h = h.0.2
 inside_in Multiplying ls redo pos backward has placed h = placed
 inside_in _ ls redo pos backward has placed h = absurd has
 
+-- a placed loop reads within its list
 pub inside : (mode : Mode) (s : Parts) → IsWhole s → s.deck.mode ≡ mode → HasPlace mode →
     IsPlaced mode s.deck.pos (length_of (loop_of s)) →
     s.deck.pos < current_length s.layers.stack.layers
@@ -241,6 +253,7 @@ place_in Multiplying ls redo pos true writing placed h = placed
 place_in Multiplying ls redo pos false writing placed h = placed
 place_in _ ls redo pos backward writing placed h = let no : ⊥ = cc in absurd no
 
+-- a placed loop writes at a right place
 pub place_for : (mode : Mode) (s : Parts) (how : How) → IsWhole s → s.deck.mode ≡ mode →
     is_writing mode ≡ true → IsPlaced mode s.deck.pos (length_of (loop_of s)) →
     how ≡ how_in mode s.deck.backward →
@@ -267,6 +280,7 @@ streak_goes Replacing streak pos backward writing h = h
 streak_goes Substituting streak pos backward writing h = h
 streak_goes _ streak pos backward writing h = let no : ⊥ = cc in absurd no
 
+-- a write goes on with its streak
 pub follows_for : (mode : Mode) (s : Parts) (how : How) → IsWhole s → s.deck.mode ≡ mode →
     is_writing mode ≡ true → how ≡ how_in mode s.deck.backward →
     Follows s.layers.stack.streak how s.deck.pos
@@ -293,6 +307,7 @@ quiet_streak Replacing streak pos backward quiet h = let no : ⊥ = cc in absurd
 quiet_streak Substituting streak pos backward quiet h = let no : ⊥ = cc in absurd no
 quiet_streak _ streak pos backward quiet h = h
 
+-- no streak goes on in a mode that is not written
 pub still_streak : (mode : Mode) (s : Parts) → IsWhole s → s.deck.mode ≡ mode →
     is_writing mode ≡ false → s.layers.stack.streak ≡ None
 still_streak mode s w is quiet =
@@ -314,11 +329,13 @@ placed_quiet : (mode : Mode) (pos len : ℕ) → is_writing mode ≡ false → I
 placed_quiet Multiplying pos len quiet = let no : ⊥ = cc in absurd no
 placed_quiet _ pos len quiet = tt
 
+-- a place of the list is within bounds
 pub list_short : (s : Parts) → IsWhole s → s.deck.pos ≤ current_length s.layers.stack.layers →
     s.deck.pos ≤ max_list_frames
 list_short s w inside = let short = current_short s.layers.stack.tape s.layers.stack.layers
     w.loop.stack.layers_within in omega arith
 
+-- a loop that is not written may advance
 pub may_advance : (mode : Mode) (s : Parts) → IsWhole s → s.deck.mode ≡ mode →
     is_writing mode ≡ false → MayAdvance mode s.deck.pos (length_of (loop_of s))
 may_advance mode s w is quiet =
@@ -336,6 +353,7 @@ pub ruleset mixing = (inside, feedback_within)
 pub unbroken_stack : {A : Type 0} (s : Stack A) → s.streak ≡ None → s ≡ streak_broken s
 unbroken_stack s is = ap (λ r. record s { streak = r }) is
 
+-- where no streak goes on, breaking it leaves the loop
 pub unbroken_loop : {A : Type 0} (l : Loop A) → l.stack.streak ≡ None →
     l ≡ with_stack (streak_broken l.stack) l
 unbroken_loop l is = ap (λ s. with_stack s l) (unbroken_stack l.stack is)

@@ -77,6 +77,7 @@ stands_changed below f layers h = record {
   rest = current_tail f layers ∙ h.rest;
 }
 
+-- an overdub, or playing behind it
 abbrev pub IsOver : Mode → Type 0
 IsOver Playing = ⊤
 IsOver Overdubbing = ⊤
@@ -193,6 +194,7 @@ rests_awake Paused rests = (
 )
 rests_awake _ rests = absurd rests
 
+-- an overdub that is granted opens a layer
 pub overdub_opens : (l : Loop Sound) (reach : ℕ) → IsAtRest l.deck.mode →
     opening reach false l.stack ≡ Ok → acts Overdub reach l ≡ layers_on Ok Overdubbing l
 overdub_opens l reach rests granted =
@@ -217,6 +219,7 @@ overdub_taken_back xs reach l now rests granted =
     ∙ undone_rest l.stack.layers (settled m).stack
     (settled_over l.stack.layers m.deck.mode m there.mode there.stands)
 
+-- what the calls leave has the layers from before
 pub strip_taken_back : (xs : List Sound) (s s1 s2 s3 : StripOf) (p p1 p2 p3 : PoolOf) →
     HasOverdubbed xs s s1 s2 p p1 p2 → Did (given Undo) s2 s3 p2 p3 →
     (seen s3 p3).stack.layers ≡ (seen s p).stack.layers

@@ -30,25 +30,31 @@ use Rattle.loop_strip.proofs.DidLemmas.{seen-is, did_kept}
 pub new_closed : (s : Parts) → IsWhole s → IsNew (loop_of s) → IsFalse s.layers.writing
 new_closed s w n = w.writing ∙ ap (λ (d : DeckOf). is_writing d.mode) n.deck
 
+-- a new loop has no redo layer
 pub new_redo : (s : Parts) → IsNew (loop_of s) → s.layers.stack.redo ≡ []
 new_redo s n = ap (λ (t : Stack ℕ). t.redo) n.stack
 
+-- nor a pin
 pub new_pin : (s : Parts) → IsNew (loop_of s) → s.layers.stack.pin ≡ None
 new_pin s n = ap (λ (t : Stack ℕ). t.pin) n.stack
 
+-- its tape ends with its layers
 pub new_end : (s : Parts) → IsNew (loop_of s) →
     s.layers.stack.tape ≡ current_end s.layers.stack.layers
 new_end s n = ap (λ (t : Stack ℕ). t.tape) n.stack
     ∙ sym (ap (λ (t : Stack ℕ). current_end t.layers) n.stack)
 
+-- it has room for a layer
 pub new_count : (s : Parts) → IsNew (loop_of s) → length s.layers.stack.layers < max_layers
 new_count s n = let e : length s.layers.stack.layers ≡ 0 =
     ap (λ (t : Stack ℕ). length t.layers) n.stack in omega arith
 
+-- and for seams
 pub new_seams : (s : Parts) → IsNew (loop_of s) → total_seams s.layers.stack.layers ≤ max_seams - 2
 new_seams s n = let e : total_seams s.layers.stack.layers ≡ 0 =
     ap (λ (t : Stack ℕ). total_seams t.layers) n.stack in omega arith
 
+-- and for frames
 pub new_room : (s : Parts) (p : PoolOf) (k : ℕ) → IsNew (loop_of s) → chunks_of k ≤ free_in p →
     chunks_of (s.layers.stack.tape + k) ≤ reach s.layers p
 new_room s p k n fits =
@@ -133,6 +139,7 @@ loop_addresses s h p p' list cycle n l =
     record (loop_of s) { deck = new_deck Paused; stack = t } in m)
     (loaded_addresses s h p p' list cycle n l)
 
+-- a loop that begins with a list is whole
 pub whole_loaded : (s : Parts) (h : Held) (p p' : PoolOf) (list : List Sound) (cycle : ℕ) →
     IsWhole s → IsNew (loop_of s) → 1 ≤ length list → length list ≤ max_list_frames → 1 ≤ cycle →
     cycle ≤ length list →
@@ -158,6 +165,7 @@ loaded_seen s h p p' list cycle n l =
     l.seen ∙ ap (λ (t : Stack ℕ). loaded list cycle (stack_map (at s.layers.tape p) t)) n.stack
     ∙ loaded_empty list cycle
 
+-- and is what the rules say
 pub did_loaded : (s : Parts) (h : Held) (p p' : PoolOf) (list : List Sound) (cycle : ℕ) →
     Owns (strip_of s) p → IsNew (loop_of s) → IsShared h → Loads list cycle s.layers h p p' →
     Did (loads list cycle) (strip_of s) (strip_of (loaded_parts s h)) p p'
@@ -179,6 +187,7 @@ begun_with : (list : List Sound) (cycle reach : ℕ) (settings : StripSettings) 
 begun_with [] cycle reach settings some = absurd (omega (arith, some))
 begun_with (x ∷ xs) cycle reach settings some = refl
 
+-- with its settings it is a first loop
 pub first_loaded : (s s' : StripOf) (p p' : PoolOf) (list : List Sound) (cycle : ℕ)
     (settings : StripSettings) → 1 ≤ length list → Did (loads list cycle) s s' p p' →
     seen s p ≡ first_loop [] settings →

@@ -124,6 +124,7 @@ record_closed : (s : Parts) → IsWhole s → is_writing s.deck.mode ≡ false �
 record_closed s w quiet = closed_layers s.deck.mode s.layers.stack.layers s.layers.stack.redo
     s.deck.pos s.deck.backward quiet w.loop.in_mode
 
+-- opening for `record` keeps the parts whole
 pub whole_recorded : (s s' : Parts) (p : PoolOf) → Owns (strip_of s) p → IsWhole s →
     is_writing s.deck.mode ≡ false → loop_of s' ≡ opens_record (reach_in (strip_of s) p)
     (loop_of s) → s'.layers.writing ≡ is_writing s'.deck.mode → s'.pinned ≡ s.pinned → IsWhole s'
@@ -139,6 +140,7 @@ playable_of s w rest =
     (playable s.deck.mode s.layers.stack.layers s.layers.stack.redo s.deck.pos s.deck.backward
     (rests s.deck.mode rest) w.loop.in_mode).0
 
+-- opening another layer keeps them whole
 pub whole_layered : (mode : Mode) (s s' : Parts) (p : PoolOf) → Owns (strip_of s) p → IsWhole s →
     IsAtRest s.deck.mode → IsLayering mode s.deck.backward →
     loop_of s' ≡ starts mode (reach_in (strip_of s) p) (loop_of s) →
@@ -186,6 +188,7 @@ pub record IsRefused (act : ℕ → Loop Sound → Loop Sound) (addressed : ℕ 
   pub ok : loop_of s' ≡ addressed (reach_in (strip_of s) p) (loop_of s)
   pub did : Did act (strip_of s) (strip_of s') p p'
 
+-- opening for `record`, refused
 pub refused_record : (s s' : Parts) (h : Held) (p p' : PoolOf) (answer : Started) →
     Owns (strip_of s) p → answer ≡ opening (reach s.layers p) true (seen_layers s.layers p) →
     Same s.layers h p p' → s'.layers ≡ h → loop_of s' ≡ refused_once (loop_of (layers_of s h)) →
@@ -200,6 +203,7 @@ refused_record s s' h p p' answer o answers same layers is counts =
           answer (λ f a l. records-mapped f a l) o answers same layers to;
     }
 
+-- opening another layer, refused
 pub refused_layer : (mode : Mode) (s s' : Parts) (h : Held) (p p' : PoolOf) (answer : Started) →
     Owns (strip_of s) p → answer ≡ opening (reach s.layers p) false (seen_layers s.layers p) →
     Same s.layers h p p' → s'.layers ≡ h → loop_of s' ≡ refused_once (loop_of (layers_of s h)) →
@@ -225,6 +229,7 @@ layering_writes Inserting backward way = refl
 layering_writes Multiplying backward way = refl
 layering_writes _ backward way = absurd way
 
+-- a mode that is opened is one that is written
 pub opens_writing : (mode : Mode) (backward : Bool) (w : Bool) → IsLayering mode backward →
     w ≡ true → w ≡ is_writing mode
 opens_writing mode backward w way is = is ∙ sym (layering_writes mode backward way)

@@ -47,6 +47,7 @@ insert_length (y ∷ ys) zero x less = refl
 insert_length [] (suc k) x less = absurd (omega arith)
 insert_length (y ∷ ys) (suc k) x less = ap suc (insert_length ys k x (omega arith))
 
+-- a write, over a fresh cell or anew
 pub written_as : {A : Type 0} (fresh : Bool) (how : How) (place : ℕ) (a : A) (s : Stack A)
     (P : List (Layer A) → Type 0) →
     ((more : ℕ) → P (with_current (with_written how place a more) s.layers)) →
@@ -103,6 +104,7 @@ may_after Multiplying how backward pos n x t way is writing short inserts multip
 may_after _ how backward pos n x t way is writing short inserts multiplies = let no : ⊥ = cc in
     absurd no
 
+-- a loop that has written may advance
 pub may_write : (mode : Mode) (how : How) (x : Sound) (s : Parts) (h : Held) (p p' : PoolOf) →
     IsWhole s → s.deck.mode ≡ mode → is_writing mode ≡ true →
     IsPlaced mode s.deck.pos (length_of (loop_of s)) → how ≡ how_in mode s.deck.backward →
@@ -129,6 +131,7 @@ may_write mode how x s h p p' w is writing placed way wrote =
         s.deck.pos ≤ current_length s.layers.stack.layers
     writing_placed s w is writing = writing_inside s w (ap is_writing is ∙ writing)
 
+-- the same layers keep the parts whole
 pub whole_same : (s : Parts) (h : Held) → IsWhole s → h ≡ s.layers → IsWhole (layers_of s h)
 whole_same s h w is = subst (λ (g : Held). IsWhole (layers_of s g)) (sym is) w
 
@@ -152,6 +155,7 @@ new_heard Overdubbing feedback list place x = refl
 new_heard Multiplying feedback list place x = refl
 new_heard _ feedback list place x = refl
 
+-- the frame that is written
 pub next_is : (mode : Mode) (x next sound : Sound) (s : Parts) (p : PoolOf) → s.deck.mode ≡ mode →
     sound ≡ heard (seen (strip_of s) p) → next ≡ new_frame mode s.controls.feedback sound x →
     next ≡ new_frame s.deck.mode s.controls.feedback
@@ -171,6 +175,7 @@ unfolding seen
 fits_seen how s p fit o way is = ap₂ (λ r k. write_fits r k s.deck.pos (seen_layers s.layers p))
     (sym (reaches s p o)) (sym way) ∙ is
 
+-- a frame written
 pub did_wrote : (x next : Sound) (how : How) (s s' : Parts) (h : Held) (p p' : PoolOf) →
     Owns (strip_of s) p →
     next ≡ new_frame s.deck.mode s.controls.feedback
@@ -226,12 +231,14 @@ did_framed x writing s s1 s' p p1 p' first is second =
     (is ∙ ap (λ (d : Deck). is_writing d.mode) (sym (seen_deck (strip_of s1) p1)))) second
     in did_then first now
 
+-- a frame keeps the parts whole
 pub whole_framed : (x : Sound) (s s' : Parts) (p p' : PoolOf) → IsWhole s →
     Did (frame_later x) (strip_of s) (strip_of s') p p' → s'.pinned ≡ s.pinned →
     s'.layers.writing ≡ is_writing s'.deck.mode → IsWhole s'
 whole_framed x s s' p p' w d pinned writing =
     whole_did (frame_later x) s s' p p' (λ a l h. framed_keeps x h) w d pinned writing
 
+-- what is heard of a loop that is ready
 pub heard_ready : (x sound : Sound) (s s1 : Parts) (p p1 : PoolOf) →
     Did (ready x) (strip_of s) (strip_of s1) p p1 → sound ≡ heard (seen (strip_of s1) p1) →
     sound ≡ heard (ready x (reach_in (strip_of s) p) (seen (strip_of s) p))
@@ -266,6 +273,7 @@ set_first : {A : Type 0} (xs : List A) (x : A) → 1 ≤ length xs → take 1 (s
 set_first [] x some = absurd (omega (arith, some))
 set_first (y ∷ ys) x some = refl
 
+-- the first of some frames
 pub did_one : (xs : List Sound) (x : Sound) (s s' : Parts) (p p' : PoolOf) → 1 ≤ length xs →
     x ≡ get_or xs 0 x → Did (frame_later x) (strip_of s) (strip_of s') p p' →
     Did (loop_over (take 1 xs)) (strip_of s) (strip_of s') p p'
@@ -273,6 +281,7 @@ did_one xs x s s' p p' some is d =
     did_also (sym (ap (λ ys. loop_over ys (reach_in (strip_of s) p) (seen (strip_of s) p))
     (take_first xs x some is))) d
 
+-- and what is heard of it
 pub heard_one : (xs hs : List Sound) (x h : Sound) (reach : ℕ) (l : Loop Sound) → 1 ≤ length xs →
     length xs ≡ length hs → x ≡ get_or xs 0 x → h ≡ heard (ready x reach l) →
     take 1 (set hs 0 h) ≡ loop_heard_over (take 1 xs) reach l
@@ -286,6 +295,7 @@ pub take_part : {A : Type 0} (n : ℕ) (part rest new : List A) → length part 
 take_part n part rest new long is = ap (take n) is ∙ ap (λ k. take k (part ++ rest)) (sym long)
     ∙ take-append_seam part rest
 
+-- before any frame
 pub plays_first : (xs heard : List Sound) (s : Parts) (p : PoolOf) → Owns (strip_of s) p →
     IsWhole s → PlaysTo 0 xs heard s s p p
 plays_first xs heard s p o w = record { did = did_nothing o; heard = refl; whole = w }
@@ -295,6 +305,7 @@ take_within zero xs ys le = refl
 take_within (suc n) [] ys le = absurd (omega (arith, le))
 take_within (suc n) (x ∷ xs) ys le = ap (λ zs. x ∷ zs) (take_within n xs ys (omega (arith, le)))
 
+-- some frames more
 pub plays_more : (done count : ℕ) (xs hs part behind new : List Sound) (first now then : Parts)
     (p p1 p2 : PoolOf) → done ≤ length hs → count ≤ length part →
         PlaysTo done xs hs first now p p1 →
@@ -326,6 +337,7 @@ plays_more done count xs hs part behind new first now then p p1 p2 le few so d s
       whole = w;
     }
 
+-- once all were played
 pub plays_done : (n : ℕ) (xs hs : List Sound) (first now : Parts) (p p' : PoolOf) → n ≡ length xs →
     length xs ≡ length hs → PlaysTo n xs hs first now p p' →
     (Did (loop_over xs) (strip_of first) (strip_of now) p p')

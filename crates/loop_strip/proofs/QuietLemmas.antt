@@ -24,11 +24,13 @@ IsStill Muted = ⊤
 IsStill Paused = ⊤
 IsStill _ = ⊥
 
+-- going on takes no chunk
 pub on_tape : (round : Bool) (l : Loop Sound) →
     chunks_of (goes_on round l).stack.tape ≡ chunks_of l.stack.tape
 on_tape true l = refl
 on_tape false l = refl
 
+-- the face goes on
 pub on_face : (round : Bool) (l : Loop Sound) →
     face_of (goes_on round l) ≡ face_goes_on round (face_of l)
 on_face true l = refl
@@ -164,6 +166,7 @@ soft_behind [] reach l is soft = tt
 soft_behind (x ∷ xs) reach l is soft = subst (λ (k : Loop Sound). AreQuiet xs k)
     (sym (soft_later l is x soft.0 reach)) (soft_quiet xs l is soft.1)
 
+-- a loop that waits is quiet over soft frames
 pub over_waiting : (n : ℕ) (input : List Sound) (s : Parts) → s.deck.mode ≡ WaitStart →
     AreSoft s.controls.rec_thresh (take n input) → IsQuietOver n input (strip_of s)
 over_waiting n input s is soft = λ p reach.
@@ -172,17 +175,20 @@ over_waiting n input s is soft = λ p reach.
     (subst (λ (c : Controls). AreSoft c.rec_thresh (take n input))
     (sym (seen_controls (strip_of s) p)) soft)
 
+-- so many frames at most
 pub taken : (n : ℕ) (xs : List Sound) → length (take n xs) ≤ n
 taken zero xs = omega arith
 taken (suc n) [] = omega arith
 taken (suc n) (x ∷ xs) = let less = taken n xs in omega arith
 
+-- quiet for a number, and so over these
 pub over_for : (n : ℕ) (input : List Sound) (s : StripOf) → IsQuietFor n s → IsQuietOver n input s
 over_for zero input s h = λ p reach. tt
 over_for (suc n) [] s h = λ p reach. tt
 over_for (suc n) (x ∷ xs) s h =
     λ p reach. h p x (take n xs) reach (let less = taken n xs in omega arith)
 
+-- one frame is always quiet
 pub over_once : (input : List Sound) (s : StripOf) → IsQuietOver 1 input s
 over_once input s = over_for 1 input s (quiet_once s)
 
@@ -199,6 +205,7 @@ take_next zero (y ∷ ys) x less is = ap (λ z. z ∷ []) (sym is)
 take_next (suc i) (y ∷ ys) x less is = let more : suc i + 1 ≡ suc (i + 1) = omega arith in
     rw more (ap (λ zs. y ∷ zs) (take_next i ys x (omega arith) is))
 
+-- one more soft frame
 pub soft_more : (i threshold : ℕ) (xs : List Sound) (x : Sound) → i < length xs →
     x ≡ get_or xs i x → AreSoft threshold (take i xs) → nat_le threshold (loudness x) ≡ false →
     AreSoft threshold (take (i + 1) xs)

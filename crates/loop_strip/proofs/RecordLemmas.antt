@@ -51,6 +51,7 @@ room_for reach tape fits = room_by (tape % chunk_frames) refl
         ∙ ap (λ b. not b || nat_lt (chunks_of tape) reach)
         (ne_eqb (suc n) 0 (λ no. omega (arith, no)))
 
+-- three that are true
 pub and_three : (a b c : Bool) → a ≡ true → b ≡ true → c ≡ true → (a && b && c) ≡ true
 and_three true true true x y z = refl
 and_three false b c x y z = let no : ⊥ = cc in absurd no
@@ -207,6 +208,7 @@ recording_made xs reach l off now unheard granted some short room =
     (subst (λ (k : Loop Sound). IsRecorded xs (opening_tape l.stack) l.controls k)
     (to_recording m there.mode) there) some))
 
+-- what the calls leave is the recording
 pub strip_records : (xs : List Sound) (s s1 s2 s3 : StripOf) (p p1 p2 p3 : PoolOf) →
     Did (given Rec) s s1 p p1 → Did (loop_over xs) s1 s2 p1 p2 → Did (given Rec) s2 s3 p2 p3 →
     (seen s p).deck.mode ≡ Off → (seen s p).controls.quantize ≡ 0 →

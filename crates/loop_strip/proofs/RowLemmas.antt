@@ -190,6 +190,7 @@ pub forward_same : (mode : Mode) (l : Loop Sound) → l.deck.mode ≡ mode → l
 forward_same mode l is forward =
     ap₂ (λ m b. record l { deck = record l.deck { mode = m; backward = b } }) is forward
 
+-- a row leaves the list with its frames written
 pub loop_row : (mode : Mode) (xs : List Sound) (reach : ℕ) (l : Loop Sound) → l.deck.mode ≡ mode →
     IsRow mode (length xs) l.deck.backward l.deck.pos (length_of l) →
     AllFit reach (row_written mode l.controls.feedback (current_list l.stack.layers) l.deck.pos xs)
@@ -205,6 +206,7 @@ loop_row mode xs reach l is row fit =
     (with_stack (written_span (row_written mode l.controls.feedback (current_list l.stack.layers)
     l.deck.pos xs) l.deck.pos l.stack) m)) (sym here)
 
+-- and what is heard of it
 pub loop_row_heard : (mode : Mode) (xs : List Sound) (reach : ℕ) (l : Loop Sound) →
     l.deck.mode ≡ mode → IsRow mode (length xs) l.deck.backward l.deck.pos (length_of l) →
     AllFit reach (row_written mode l.controls.feedback (current_list l.stack.layers) l.deck.pos xs)
@@ -390,6 +392,7 @@ did_row n mode xs hs ys s s' h p p' o is row le same long sounds news w shared t
     sounds news) w shared tape shared'
     (to ∙ ap (λ m. at_place (s.deck.pos + m) (loop_of (layers_of s h))) (sym count))
 
+-- the same with the pool
 pub heard_row : (n : ℕ) (mode : Mode) (xs hs ys : List Sound) (s : Parts) (h : Held)
     (p p' : PoolOf) → Owns (strip_of s) p → s.deck.mode ≡ mode →
     IsRow mode (length xs) s.deck.backward s.deck.pos (length_of (loop_of s)) → n ≤ length xs →
@@ -417,6 +420,7 @@ heard_row n mode xs hs ys s h p p' o is row le same long sounds news w =
     (ap (λ (d : Deck). d.mode) deck ∙ is) (row_place mode (length (take n xs)) s p part)
     (row_fits (take n ys) _ s h p p' o (row_frames mode (take n xs) (take n ys) s p yis) w))
 
+-- a row begins within the list
 pub row_inside : (mode : Mode) (s : Parts) → IsWhole s → s.deck.mode ≡ mode → WritesOver mode →
     s.deck.pos < length_of (loop_of s)
 row_inside Overdubbing s w is over = inside Overdubbing s w is tt tt
@@ -424,6 +428,7 @@ row_inside Replacing s w is over = inside Replacing s w is tt tt
 row_inside Substituting s w is over = inside Substituting s w is tt tt
 row_inside _ s w is over = absurd over
 
+-- its layer is open
 pub row_open : (mode : Mode) (s : Parts) → IsWhole s → s.deck.mode ≡ mode → WritesOver mode →
     IsTrue s.layers.writing
 row_open Overdubbing s w is over = subst (λ b. IsTrue b) (sym (w.writing ∙ ap is_writing is)) refl
@@ -431,6 +436,7 @@ row_open Replacing s w is over = subst (λ b. IsTrue b) (sym (w.writing ∙ ap i
 row_open Substituting s w is over = subst (λ b. IsTrue b) (sym (w.writing ∙ ap is_writing is)) refl
 row_open _ s w is over = absurd over
 
+-- its first write goes on with the streak
 pub row_follows : (mode : Mode) (s : Parts) → IsWhole s → s.deck.mode ≡ mode → WritesOver mode →
     s.deck.backward ≡ false → Follows s.layers.stack.streak Forward s.deck.pos
 row_follows Overdubbing s w is over forward =
@@ -441,6 +447,7 @@ row_follows Substituting s w is over forward =
     follows_for Substituting s Forward w is refl (ap (λ b. how_in Substituting b) (sym forward))
 row_follows _ s w is over forward = absurd over
 
+-- its mode is written
 pub row_writing : (mode now : Mode) → now ≡ mode → WritesOver mode → true ≡ is_writing now
 row_writing Overdubbing now is over = sym (ap is_writing is)
 row_writing Replacing now is over = sym (ap is_writing is)
@@ -455,6 +462,7 @@ span_at : (list : List Sound) (place n k : ℕ) → k < n →
 span_at list place n k less = get_or-take n (drop place list) k silence less
     ∙ get_or-drop place list k silence
 
+-- what is heard where the list is heard
 pub hear_over : (list hs : List Sound) (place n k : ℕ) → hs ≡ take n (drop place list) →
     k < length hs → get_or hs k silence ≡ sound_at list (place + k)
 hear_over list hs place n k is less =
@@ -462,6 +470,7 @@ hear_over list hs place n k is less =
     let few = length-take n (drop place list) in
     ap (λ ts. get_or ts k silence) is ∙ span_at list place n k (omega (arith, less, long, few))
 
+-- and where it is not
 pub hear_none : (mode : Mode) (list : List Sound) (n place len k m : ℕ) (backward : Bool) →
     IsRow mode m backward place len → (mode ≡ Overdubbing → ⊥) → (mode ≡ Substituting → ⊥) →
     get_or (replicate n silence) k silence ≡ heard_from mode list (place + k)
@@ -488,6 +497,7 @@ did_after xs n s s1 s2 p p1 p2 none first second =
     subst (λ k. Did (loop_over (take k xs)) (strip_of s) (strip_of s1) p p1) none first
     in did_then still second
 
+-- what is heard behind no frames
 pub heard_after : (xs hs : List Sound) (n : ℕ) (s s1 : Parts) (p p1 : PoolOf) → n ≡ 0 →
     Did (loop_over (take n xs)) (strip_of s) (strip_of s1) p p1 →
     hs ≡ loop_heard_over (take 1 xs) (reach_in (strip_of s1) p1) (seen (strip_of s1) p1) →
@@ -505,6 +515,7 @@ taken_twice [] (suc n) (suc m) le = refl
 taken_twice (x ∷ xs) (suc n) zero le = absurd (omega (arith, le))
 taken_twice (x ∷ xs) (suc n) (suc m) le = ap (λ ts. x ∷ ts) (taken_twice xs n m (omega (arith, le)))
 
+-- the first of a part are the first of the whole
 pub taken_part : (n m : ℕ) (part rest new : List Sound) → n ≤ length part → new ≡ part ++ rest →
     take n new ≡ take n part
 taken_part zero m part rest new le is = refl

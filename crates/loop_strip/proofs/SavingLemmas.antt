@@ -41,6 +41,7 @@ whole_pin b s s' w k pinned writing deck controls = record {
   controls = subst (λ (c : ControlsIn). AreControls (controls_of c)) (sym controls) w.controls;
 }
 
+-- a pin keeps the parts whole
 pub whole_pinned : (s : Parts) (h : Held) → IsWhole s → h.stack ≡ pinned s.layers.stack →
     h.writing ≡ s.layers.writing → IsWhole (record s { pinned = true; layers = h })
 whole_pinned s h w stack writing =
@@ -49,6 +50,7 @@ whole_pinned s h w stack writing =
     Keeps (record (own (chunks_of s.layers.stack.tape) s) { pinned = true })
     (with_stack t (loop_of s))) (sym stack) (pinned_keeps (own_keeps s w))) refl writing refl refl
 
+-- so does its release
 pub whole_unpinned : (s : Parts) (h : Held) → IsWhole s → h.stack ≡ unpinned s.layers.stack →
     h.writing ≡ s.layers.writing → IsWhole (record s { pinned = false; layers = h })
 whole_unpinned s h w stack writing =
@@ -58,6 +60,7 @@ whole_unpinned s h w stack writing =
     (with_stack t (loop_of s))) (sym stack) (unpinned_keeps (own_keeps s w))) refl writing refl
     refl
 
+-- a pin is what the rules say
 pub did_pinned : (s : Parts) (h : Held) (b : Bool) → h.stack ≡ pinned s.layers.stack →
     h.tape ≡ s.layers.tape → IsShared h → DidAlone (λ reach l. with_stack (pinned l.stack) l)
     (strip_of s) (strip_of (record s { pinned = b; layers = h }))
@@ -67,6 +70,7 @@ did_pinned s h b stack tape shared = λ p o.
     (λ f reach l. ap (λ t. with_stack t (loop_map f l)) (pinned-mapped f l.stack))
     (ap (λ t. with_stack t (loop_of s)) stack)
 
+-- and so is its release
 pub did_unpinned : (s : Parts) (h : Held) (b : Bool) → h.stack ≡ unpinned s.layers.stack →
     h.tape ≡ s.layers.tape → IsShared h → DidAlone (λ reach l. with_stack (unpinned l.stack) l)
     (strip_of s) (strip_of (record s { pinned = b; layers = h }))
@@ -98,6 +102,7 @@ new_controls s is =
     (is_in_range RecThresh (pos s.rec_thresh) 0) is
     in record { feedback = h.0; wet = h.1; round = h.2; quantize = h.3; rec_thresh = h.4 }
 
+-- a new loop is whole
 pub new_whole : (settings : StripSettings) (s : Parts) (chunks : ℕ) → is_strip settings ≡ true →
     loop_of s ≡ first_loop [] settings → s.layers.writing ≡ false → s.deck.mode ≡ Off →
     s.pinned ≡ false → s.layers.stack ≡ empty_stack → IsWhole s
@@ -141,6 +146,7 @@ whole_set s h w in_range = record {
   controls = in_range;
 }
 
+-- a control stays in its range
 pub set_in_range : (control : Control) (value : ℤ) (c : Controls) →
     IsTrue (is_in_range control value 0) → AreControls c →
     AreControls (with_control control (unsigned_abs value) c)
@@ -196,6 +202,7 @@ set_in_range Quantize (negsuc n) c is h = let off : ⊥ = cc in absurd off
 set_in_range RecThresh (negsuc n) c is h = let off : ⊥ = cc in absurd off
 set_in_range _ value c is h = h
 
+-- a control set is what the rules say
 pub did_set : (control : Control) (value : ℤ) (s s' : Parts) → s'.layers ≡ s.layers →
     IsShared s'.layers → ((reach : ℕ) → loop_of s' ≡ sets control value reach (loop_of s)) →
     DidAlone (sets control value) (strip_of s) (strip_of s')

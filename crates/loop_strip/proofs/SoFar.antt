@@ -9,6 +9,7 @@ use Rattle.loop_strip.specs.declared.parts.Parts.{Parts}
 use Rattle.loop_strip.specs.Strips.{seen, reach_in, Did}
 use Rattle.loop_strip.specs.Parts.{strip_of, IsWhole}
 
+-- so many frames were played, and heard
 pub record PlaysTo (done : ℕ) (xs sounds : List Sound) (first now : Parts)
     (p p' : PoolOf) : Type 0 where
   pub did : Did (loop_over (take done xs)) (strip_of first) (strip_of now) p p'

@@ -43,11 +43,13 @@ not_same n m less = ne_eqb n m (λ is. omega (arith, less, is))
 not_zero : (n : ℕ) → 1 ≤ n → (n == 0) ≡ false
 not_zero n some = ne_eqb n 0 (λ is. omega (arith, some, is))
 
+-- a place with frames ahead is not at the border
 pub no_wrap : (n : ℕ) (backward : Bool) (place len : ℕ) → IsAhead (suc n) backward place len →
     wraps backward place len ≡ false
 no_wrap n true place len h = let a = h.ahead in not_zero place (omega (arith, a))
 no_wrap n false place len h = let a = h.ahead in not_same (place + 1) len (omega (arith, a))
 
+-- one place on there is one frame less ahead
 pub ahead_next : (n : ℕ) (backward : Bool) (place len : ℕ) → IsAhead (suc n) backward place len →
     IsAhead n backward (next_place backward place) len
 ahead_next n true place len h = let a = h.ahead in let i = h.inside in
@@ -260,6 +262,7 @@ heard_in Inserting xs reach l h = none_heard xs reach (set_to Inserting l) h
 heard_in Replacing xs reach l h = none_heard xs reach (set_to Replacing l) h
 heard_in Substituting xs reach l h = none_heard xs reach (set_to Substituting l) h
 
+-- a loop in its own mode
 pub set_same : (mode : Mode) (l : Loop Sound) → l.deck.mode ≡ mode → l ≡ set_to mode l
 set_same mode l is = ap (λ m. set_to m l) is
 
@@ -313,6 +316,7 @@ did_stretched mode xs n s s' p o is h same tape shared done =
     in did_also over (did_as (λ reach k. at_place place k) (λ reach k. at_place place k) s s' p o
     tape shared (λ f reach k. refl) to)
 
+-- what is heard of a stretch
 pub heard_stretched : (mode : Mode) (xs hs : List Sound) (n : ℕ) (s : Parts) (p : PoolOf) →
     s.deck.mode ≡ mode → IsStretch mode xs s.controls.rec_thresh s.deck.backward s.deck.pos
     (length_of (loop_of s)) → n ≡ length xs →
@@ -337,6 +341,7 @@ over_keeps : (xs : List Sound) (a : Unchanged) (l : Loop Sound) → KeepsLoop a 
 over_keeps [] a l h = h
 over_keeps (x ∷ xs) a l h = over_keeps xs a (frame_later x a.reach l) (framed_keeps x h)
 
+-- frames keep the parts whole
 pub whole_over : (xs : List Sound) (s s' : Parts) (p p' : PoolOf) → IsWhole s →
     Did (loop_over xs) (strip_of s) (strip_of s') p p' → s'.pinned ≡ s.pinned →
     s'.layers.writing ≡ is_writing s'.deck.mode → IsWhole s'
@@ -349,6 +354,7 @@ pub ahead_taken : (n : ℕ) (xs : List Sound) (backward : Bool) (place len : ℕ
 ahead_taken n xs backward place len inside few =
     record { inside = inside; ahead = (let less = taken n xs in omega (arith, less, few)) }
 
+-- a moving loop is within its list
 pub place_inside : (mode : Mode) (s : Parts) → IsWhole s → s.deck.mode ≡ mode → IsMoving mode →
     s.deck.pos < length_of (loop_of s)
 place_inside Playing s w is moving = inside Playing s w is tt tt
@@ -373,14 +379,17 @@ pos_in Muted layers redo pos backward h = let less = h.0.1 in omega (arith, less
 pos_in OneShot layers redo pos backward h = let less = h.0.1 in omega (arith, less)
 pos_in Paused layers redo pos backward h = let less = h.0.1 in omega (arith, less)
 
+-- a place is within bounds
 pub pos_short : (s : Parts) → IsWhole s → s.deck.pos ≤ max_list_frames
 pos_short s w = list_short s w
     (pos_in s.deck.mode s.layers.stack.layers s.layers.stack.redo s.deck.pos s.deck.backward
     w.loop.in_mode)
 
+-- the first of a list are few
 pub few_taken : (n m : ℕ) (xs : List Sound) → n ≤ m → length (take n xs) ≤ m
 few_taken n m xs few = let less = taken n xs in omega (arith, less, few)
 
+-- and as many as asked
 pub long_taken : (n : ℕ) (xs : List Sound) → n ≤ length xs → length (take n xs) ≡ n
 long_taken n xs le = length-take-le n xs le
 

@@ -20,20 +20,24 @@ use Rattle.layer_memory.proofs.SeenLemmas.{pinned_list-mapped}
 use Rattle.loop_strip.proofs.DidLemmas.{seen_face, seen_controls}
 use Rattle.loop_strip.proofs.FrameLemmas.{seen_stack}
 
+-- the face, as contracts see it
 pub face_at : (s : Parts) (t : StripOf) (p : PoolOf) → strip_of s ≡ t →
     face_of (loop_of s) ≡ face_of (seen t p)
 face_at s t p is = sym (seen_face (strip_of s) p) ∙ ap (λ (u : StripOf). face_of (seen u p)) is
 
+-- the controls
 pub controls_at : (s : Parts) (t : StripOf) (p : PoolOf) → strip_of s ≡ t →
     (loop_of s).controls ≡ (seen t p).controls
 controls_at s t p is =
     sym (seen_controls (strip_of s) p) ∙ ap (λ (u : StripOf). (seen u p).controls) is
 
+-- the pinned list
 pub pinned_at : (s : Parts) (t : StripOf) (p : PoolOf) → strip_of s ≡ t →
     pinned_list (seen_layers s.layers p).pin ≡ pinned_list (seen t p).stack.pin
 pinned_at s t p is = ap (λ (u : Stack Sound). pinned_list u.pin)
     (sym (seen_stack s p)) ∙ ap (λ (u : StripOf). pinned_list (seen u p).stack.pin) is
 
+-- a value
 pub told_at : (control : Control) (free : ℕ) (s : Parts) (t : StripOf) (p : PoolOf) →
     strip_of s ≡ t → free ≡ free_in p →
     reply_value (pos (loop_value control free (loop_of s).controls (face_of (loop_of s))))
@@ -44,6 +48,7 @@ told_at control free s t p is free_is =
     ∙ ap₂ (λ (c : Controls) (f : Face). reply_value (pos (loop_value control (free_in p) c f)))
     (controls_at s t p is) (face_at s t p is)
 
+-- a new strip
 pub seen_new : (settings : StripSettings) (chunks : ℕ) (t : StripOf) (p : PoolOf) →
     t ≡ record {
       loop = first_loop [] settings;
@@ -66,6 +71,7 @@ settings_by f c = record {
       c.rec_thresh;
 }
 
+-- the settings
 pub settings_at : (s : Parts) (t : StripOf) (p : PoolOf) → strip_of s ≡ t →
     settings_of (loop_of s) ≡ settings_of (seen t p)
 settings_at s t p is = ap₂ settings_by (face_at s t p is) (controls_at s t p is)
@@ -78,6 +84,7 @@ pinned_length s t p is =
     ∙ ap length (sym (pinned_list-mapped (at s.layers.tape p) s.layers.stack.pin))
     ∙ ap length (pinned_at s t p is)
 
+-- places of the pinned list
 pub saved_within : (k : ℕ) (s : Parts) (t : StripOf) (p : PoolOf) → strip_of s ≡ t →
     k ≤ length (pinned_list (seen t p).stack.pin) → k ≤ length (pinned_list s.layers.stack.pin)
 saved_within k s t p is within = let e = pinned_length s t p is in omega arith

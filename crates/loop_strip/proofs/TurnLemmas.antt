@@ -361,6 +361,7 @@ turn_made (o ∷ os) (x ∷ xs) reach l list now rests forward pos granted same 
 list_long : (layers : List (Layer Sound)) → length (current_list layers) ≡ current_length layers
 list_long layers = length-map (current_cells layers) content_of
 
+-- what the calls leave is the mixed list
 pub strip_turns : (xs : List Sound) (s s1 s2 s3 : StripOf) (p p1 p2 p3 : PoolOf) →
     Did (given Overdub) s s1 p p1 → Did (loop_over xs) s1 s2 p1 p2 →
     Did (given Overdub) s2 s3 p2 p3 →
@@ -379,6 +380,7 @@ strip_turns xs s s1 s2 s3 p p1 p2 p3 a b c now rests forward pos granted same so
     in subst (λ (k : Loop Sound). IsRecording
     (overdubbed l.controls.feedback (current_list l.stack.layers) xs) k) (sym all.seen) turn.made
 
+-- and the old list was heard
 pub strip_hears : (xs hs : List Sound) (s s1 : StripOf) (p p1 : PoolOf) →
     Did (given Overdub) s s1 p p1 → hs ≡ loop_heard_over xs (reach_in s1 p1) (seen s1 p1) →
     (seen s p).controls.quantize ≡ 0 → IsAtRest (seen s p).deck.mode →

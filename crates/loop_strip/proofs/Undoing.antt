@@ -12,6 +12,7 @@ pub record IsUndone (done : ℕ) (first now : Parts) : Type 0 where
   pub tape : now.layers.tape ≡ first.layers.tape
   pub whole : IsWhole now
 
+-- so many redos were done, and those that are left lead to the end
 pub record IsRedone (done : ℕ) (first now : Parts) : Type 0 where
   pub ok : redo_each (drop done (loop_of first).stack.redo) (loop_of now) ≡ redo_all (loop_of first)
   pub tape : now.layers.tape ≡ first.layers.tape

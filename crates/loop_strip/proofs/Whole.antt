@@ -26,6 +26,7 @@ own reach s = record {
       s.deck.press;
 }
 
+-- a whole loop keeps what it has
 pub whole_keeps : (reach : ℕ) (s : Parts) → chunks_of s.layers.stack.tape ≤ reach → IsWhole s →
     Keeps (own reach s) (loop_of s)
 whole_keeps reach s within w =
@@ -41,13 +42,16 @@ whole_after reach s s' w k pinned writing = record {
   controls = subst AreControls (sym k.controls) w.controls;
 }
 
+-- the same loop keeps the same
 pub kept_as : (reach : ℕ) (s s' : Parts) (l : Loop ℕ) → loop_of s' ≡ l → Keeps (own reach s) l →
     Keeps (own reach s) (loop_of s')
 kept_as reach s s' l is k = subst (λ (m : Loop ℕ). Keeps (own reach s) m) (sym is) k
 
+-- the same loop has the same mode
 pub same_mode : (s s' : Parts) (l : Loop ℕ) → loop_of s' ≡ l → s'.deck.mode ≡ l.deck.mode
 same_mode s s' l is = ap (λ (m : Loop ℕ). m.deck.mode) is
 
+-- with what its own tape takes
 pub own_keeps : (s : Parts) → IsWhole s → Keeps (own (chunks_of s.layers.stack.tape) s) (loop_of s)
 own_keeps s w = whole_keeps (chunks_of s.layers.stack.tape) s (omega arith) w
 
@@ -79,6 +83,7 @@ inside_in Replacing layers redo pos backward writing h = let inside = h.2 in ome
 inside_in Substituting layers redo pos backward writing h = let inside = h.2 in omega arith
 inside_in _ layers redo pos backward writing h = let no : ⊥ = cc in absurd no
 
+-- a loop that is written is within its list
 pub writing_inside : (s : Parts) → IsWhole s → is_writing s.deck.mode ≡ true →
     s.deck.pos ≤ current_length s.layers.stack.layers
 writing_inside s w writing = inside_in s.deck.mode s.layers.stack.layers s.layers.stack.redo
@@ -101,6 +106,7 @@ undo_quiet l =
     in fewer_quiet (undone now.stack).layers (with_stack (undone now.stack) now)
     (settled_quiet (is_writing l.deck.mode) l refl)
 
+-- an undo keeps the parts whole
 pub whole_undone : (s s1 s' : Parts) → IsWhole s → IsWhole s1 → loop_of s1 ≡ settled (loop_of s) →
     loop_of s' ≡ stepped_back (loop_of s1) → s'.layers.writing ≡ false → s'.pinned ≡ s1.pinned →
     IsWhole s'
@@ -132,6 +138,7 @@ redo_some : {A : Type 0} (ls : List (Layer A)) (l : Loop A) → 1 ≤ length ls 
 redo_some [] l some = absurd (omega arith)
 redo_some (x ∷ xs) l some = refl
 
+-- so does a redo
 pub whole_redone : (s s' : Parts) → IsWhole s → 1 ≤ length s.layers.stack.redo →
     s.layers.writing ≡ false →
     loop_of s' ≡ with_more s.deck.mode (with_stack (redone (loop_of s).stack) (loop_of s)) →
@@ -160,6 +167,7 @@ redo_step zero (x ∷ xs) l l' e less is left = ap (redo_each xs) is ∙ left
 redo_step (suc i) (x ∷ xs) l l' e less is left = let more : suc i + 1 ≡ suc (i + 1) = omega arith in
     rw more (redo_step i xs l l' e (omega arith) is left)
 
+-- one undo more
 pub undone_more : (i n : ℕ) (first now next : Parts) → n ≡ length first.layers.stack.layers →
     i < n → IsUndone i first now → loop_of next ≡ undo (loop_of now) →
     next.layers.tape ≡ now.layers.tape → IsWhole next → IsUndone (i + 1) first next
@@ -170,6 +178,7 @@ undone_more i n first now next size less h is tape w = record {
   whole = w;
 }
 
+-- one redo more
 pub redone_more : (i n : ℕ) (first now next : Parts) → n ≡ length first.layers.stack.redo → i < n →
     IsRedone i first now → loop_of next ≡ redo (loop_of now) → next.layers.tape ≡ now.layers.tape →
     IsWhole next → IsRedone (i + 1) first next

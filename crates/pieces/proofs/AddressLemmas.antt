@@ -11,6 +11,7 @@ use Rattle.pieces.proofs.SplittingLemmas.{length-split, length-piece, total-behi
 use Rattle.pieces.specs.Pieces.{Piece, address_in, addresses, piece_addresses, total}
 use Rattle.pieces.specs.Splitting.{IsHint, back, before, behind, front, spliced, split}
 
+-- the addresses of two lists, one behind the other
 pub addresses-append : (xs ys : List Piece) → addresses (xs ++ ys) ≡ addresses xs ++ addresses ys
 addresses-append [] ys = refl
 addresses-append (x ∷ xs) ys = rw (addresses-append xs ys)
@@ -37,10 +38,12 @@ dropped f (suc k) a (suc n) le = let h = dropped f k (a + 1) n (omega (arith, le
     let e : k + (a + 1) ≡ suc k + a = omega arith in let d : suc n - suc k ≡ n - k = omega arith in
     rw (h, e, d) refl
 
+-- the front of a piece is its first addresses
 pub piece-front : (p : Piece) (k : ℕ) → k ≤ p.len →
     piece_addresses (front k p) ≡ take k (piece_addresses p)
 piece-front p k le = sym (take-map-range_with_len (address_in p) 0 p.len k le)
 
+-- and its back the others
 pub piece-back : (p : Piece) (k : ℕ) → k ≤ p.len →
     piece_addresses (back k p) ≡ drop k (piece_addresses p)
 piece-back p k le = rw (stepped p k 0 (p.len - k), dropped (address_in p) k 0 p.len le) refl
@@ -74,6 +77,7 @@ past-later : (place : ℕ) (p : Piece) (ps : List Piece) → p.len ≤ place →
 past-later place p ps le = drop-past (piece_addresses p) (addresses ps) (place - p.len) p.len place
     (length-piece p) (omega (arith, le))
 
+-- the pieces before a place are the first addresses
 pub addresses-before : (place : ℕ) (ps : List Piece) → place ≤ total ps →
     addresses (before place ps) ≡ take place (addresses ps)
 addresses-before place [] le = grind arith
@@ -87,6 +91,7 @@ addresses-before place (p ∷ ps) le =
       piece-front p place,
     )
 
+-- and those behind it the others
 pub addresses-behind : (place : ℕ) (ps : List Piece) → place ≤ total ps →
     addresses (behind place ps) ≡ drop place (addresses ps)
 addresses-behind place [] le = grind arith
@@ -100,6 +105,7 @@ addresses-behind place (p ∷ ps) le =
       piece-back p place,
     )
 
+-- a split changes no address
 pub addresses-split : (place : ℕ) (ps : List Piece) → place ≤ total ps →
     addresses (split place ps) ≡ addresses ps
 addresses-split place ps le =
@@ -109,6 +115,7 @@ addresses-split place ps le =
       addresses-behind place ps le,
     ) (take-append-drop place (addresses ps))
 
+-- a splice puts a piece in place of addresses
 pub addresses-spliced : (place count : ℕ) (piece : Piece) (ps : List Piece) →
     place + count ≤ total ps → addresses (spliced place count piece ps) ≡ take place (addresses ps)
     ++ (piece_addresses piece ++ drop (place + count) (addresses ps))
@@ -126,6 +133,7 @@ addresses-spliced place count piece ps le =
       d,
     ) refl
 
+-- items moved down are items removed
 pub removed : (xs : List Piece) (i j n : ℕ) → i ≤ j → j ≤ n → n ≡ length xs →
     take (i + (n - j)) (copy_within xs j n i) ≡ take i xs ++ drop j xs
 removed xs i j n le1 le2 e =
@@ -167,6 +175,7 @@ length-twice : (a c : ℕ) (ps : List Piece) → a ≤ total ps →
 length-twice a c ps le =
     rw (before-twice a c ps le) (length-append (before a ps) (before c (behind a ps)))
 
+-- two splits and a piece between are a splice
 pub spliced-twice : (a c from to : ℕ) (ps once two : List Piece) (p : Piece) → a ≤ total ps →
     once ≡ split a ps → from ≡ length (before a ps) → two ≡ split (a + c) once →
     to ≡ length (before (a + c) once) →
@@ -176,10 +185,12 @@ spliced-twice a c from to ps once two p le e1 e2 e3 e4 =
     (rw (split-twice a c ps le, length-twice a c ps le)
     (between (before a ps) (before c (behind a ps)) (behind c (behind a ps)) p))
 
+-- both ends of an edit, in order and within the list
 pub record Ends (from to n : ℕ) : Type 0 where
   pub order : from ≤ to
   pub within : to ≤ n
 
+-- the ends of a splice
 pub ends-twice : (a c from to : ℕ) (ps once two : List Piece) → a ≤ total ps → once ≡ split a ps →
     from ≡ length (before a ps) → two ≡ split (a + c) once → to ≡ length (before (a + c) once) →
     Ends from to (length two)
@@ -191,21 +202,25 @@ ends-twice a c from to ps once two le e1 e2 e3 e4 =
     (length-append (before (a + c) (split a ps)) (behind (a + c) (split a ps)))) in
     record { order = omega (arith, h); within = omega (arith, t) }
 
+-- a split changes no length
 pub total-split : (a : ℕ) (ps : List Piece) → a ≤ total ps → total (split a ps) ≡ total ps
 total-split a ps le = let h = total-before a ps le in let k = total-behind a ps le in
     let t = total-append (before a ps) (behind a ps) in omega (arith, h, k, t)
 
+-- they are in order
 pub order-twice : (a c from to : ℕ) (ps once two : List Piece) → a ≤ total ps → once ≡ split a ps →
     from ≡ length (before a ps) → two ≡ split (a + c) once → to ≡ length (before (a + c) once) →
     from ≤ to
 order-twice a c from to ps once two le e1 e2 e3 e4 =
     (ends-twice a c from to ps once two le e1 e2 e3 e4).order
 
+-- they are within the list
 pub within-twice : (a from : ℕ) (ps two : List Piece) → from ≡ length (before a ps) →
     two ≡ split a ps → from ≤ length two
 within-twice a from ps two e1 e2 =
     rw (e1, e2, length-append (before a ps) (behind a ps)) (omega arith)
 
+-- the first of them is a right hint
 pub hint-twice : (a from : ℕ) (ps two : List Piece) → a ≤ total ps → from ≡ length (before a ps) →
     two ≡ split a ps → IsHint two from a
 hint-twice a from ps two le e1 e2 =
@@ -222,15 +237,18 @@ pub ruleset twice = (hint-twice, spliced-twice, order-twice, within-twice, total
 pub ruleset edits =
     (addresses-split, addresses-append, addresses-before, addresses-behind, addresses-spliced)
 
+-- a split has at most one piece more
 pub length-before : (place : ℕ) (ps : List Piece) →
     length (before place ps) + length (behind place ps) ≤ length ps + 1
 length-before place ps = let h = length-split place ps in
     let e = length-append (before place ps) (behind place ps) in omega (arith, h, e)
 
+-- there are no more pieces behind a place
 pub length-behind : (place : ℕ) (ps : List Piece) → length (behind place ps) ≤ length ps
 length-behind place [] = omega arith
 length-behind place (p ∷ ps) = grind (arith, common_steps, length-behind (place - p.len) ps)
 
+-- a splice adds at most two pieces
 pub length-spliced : (place count : ℕ) (p : Piece) (ps : List Piece) →
     length (spliced place count p ps) ≤ length ps + 2
 length-spliced place count p ps =
@@ -239,6 +257,7 @@ length-spliced place count p ps =
     let g = length-behind count (behind place ps) in
     omega (arith, e, h, g)
 
+-- one item in place of another
 pub set-by-parts : (xs : List ℕ) (i x : ℕ) → i < length xs →
     take i xs ++ (x ∷ [] ++ drop (i + 1) xs) ≡ set xs i x
 set-by-parts [] i x lt = grind arith
@@ -246,11 +265,13 @@ set-by-parts (y ∷ ys) zero x lt = refl
 set-by-parts (y ∷ ys) (suc i) x lt = let e : suc i + 1 ≡ suc (i + 1) = omega arith in
     let h = set-by-parts ys i x (omega (arith, lt)) in rw e (ap (λ t. y ∷ t) h)
 
+-- as many addresses as the pieces have
 pub length-addresses : (ps : List Piece) → length (addresses ps) ≡ total ps
 length-addresses [] = refl
 length-addresses (p ∷ ps) = let h = length-addresses ps in let e = length-piece p in
     let a = length-append (piece_addresses p) (addresses ps) in omega (arith, h, e, a)
 
+-- one address in place of another, by parts
 pub filled : (ps qs : List Piece) (place address : ℕ) → place < total ps →
     addresses qs ≡ take place (addresses ps)
     ++ (piece_addresses (record { start = address; len = 1; backward = false })

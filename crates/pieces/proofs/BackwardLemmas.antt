@@ -11,18 +11,21 @@ use Rattle.pieces.specs.Pieces.{Piece, Solid, address_in, addresses, total}
 use Rattle.pieces.specs.Splitting.{IsHint, back, before, behind, front, offset, split}
 use Rattle.pieces.specs.OneMore.{ContinuesBackward, grown_down, grows_down, joined_before, one, overwritten_backward, starts}
 
+-- the piece behind grows down
 pub join-down : (k a : ℕ) (p : Piece) (xs : List Piece) → k < length xs → p ≡ get_or xs k p →
     grows_down a p ≡ true → set xs k (grown_down p) ≡ take k xs ++ joined_before a (drop k xs)
 join-down k a p [] lt e g = grind arith
 join-down zero a p (x ∷ xs) lt e g = let q : p ≡ x = e in rw (sym q, g) refl
 join-down (suc k) a p (x ∷ xs) lt e g = ap (λ t. x ∷ t) (join-down k a p xs (omega (arith, lt)) e g)
 
+-- or a piece comes before it
 pub put-down : (k a : ℕ) (p : Piece) (xs : List Piece) → k < length xs → p ≡ get_or xs k p →
     grows_down a p ≡ false → insert xs k (one a) ≡ take k xs ++ joined_before a (drop k xs)
 put-down k a p [] lt e g = grind arith
 put-down zero a p (x ∷ xs) lt e g = let q : p ≡ x = e in rw (sym q, g) refl
 put-down (suc k) a p (x ∷ xs) lt e g = ap (λ t. x ∷ t) (put-down k a p xs (omega (arith, lt)) e g)
 
+-- or behind all
 pub put-last : (k a : ℕ) (xs : List Piece) → k ≡ length xs →
     insert xs k (one a) ≡ take k xs ++ joined_before a (drop k xs)
 put-last zero a [] e = refl
@@ -32,6 +35,7 @@ put-last (suc k) a (x ∷ xs) e = ap (λ t. x ∷ t) (put-last k a xs (omega (ar
 
 pub ruleset joins = (join-down, put-down, put-last, len-within)
 
+-- the steps of a write backward
 pub down-steps : (place a k : ℕ) (ps s t u : List Piece) → s ≡ split place ps →
     k ≡ length (before place ps) → t ≡ take k s ++ behind 1 (drop k s) →
     u ≡ take k t ++ joined_before a (drop k t) → u ≡ overwritten_backward place a ps
@@ -52,6 +56,7 @@ down-steps place a k ps s t u e1 e2 e3 e4 =
       drop-append_seam (before place ps) (behind 1 (behind place ps)),
     ) refl
 
+-- its index is within the list
 pub down-within : (place k : ℕ) (ps s t : List Piece) → s ≡ split place ps →
     k ≡ length (before place ps) → t ≡ take k s ++ behind 1 (drop k s) → k ≤ length t
 down-within place k ps s t e1 e2 e3 =
@@ -100,6 +105,7 @@ down-addresses : (a : ℕ) (ps : List Piece) → addresses (joined_before a ps) 
 down-addresses a [] = let z : a + 0 ≡ a = omega arith in rw z refl
 down-addresses a (p ∷ ps) = down-here (grows_down a p) a p ps refl
 
+-- a write backward changes one address
 pub overwritten-down-addresses : (place a : ℕ) (ps : List Piece) → place < total ps →
     addresses (overwritten_backward place a ps) ≡ slice_set (addresses ps) place a
 overwritten-down-addresses place a ps lt =
@@ -120,6 +126,7 @@ down-total : (a : ℕ) (ps : List Piece) → total (joined_before a ps) ≡ tota
 down-total a [] = omega arith
 down-total a (p ∷ ps) = grind arith
 
+-- it changes no length
 pub overwritten-down-total : (place a : ℕ) (ps : List Piece) → place < total ps →
     total (overwritten_backward place a ps) ≡ total ps
 overwritten-down-total place a ps lt =
@@ -140,6 +147,7 @@ down-solid : (a : ℕ) (ps : List Piece) → Solid ps → Solid (joined_before a
 down-solid a [] s = (omega arith, tt)
 down-solid a (p ∷ ps) s = down-solid-here (grows_down a p) a p ps s
 
+-- it leaves no empty piece
 pub overwritten-down-solid : (place a : ℕ) (ps : List Piece) → Solid ps →
     Solid (overwritten_backward place a ps)
 overwritten-down-solid place a ps s =
@@ -158,6 +166,7 @@ down-starts : (a : ℕ) (ps : List Piece) → starts (a + 1) (joined_before a ps
 down-starts a [] = grind (arith, common_steps)
 down-starts a (p ∷ ps) = starts-here (grows_down a p) a p ps refl
 
+-- the next one in front goes on from it
 pub overwritten-down-continues : (place a : ℕ) (ps ps' : List Piece) →
     ps' ≡ overwritten_backward place a ps → place < length (addresses ps) → Solid ps →
     ContinuesBackward place (a + 1) ps'
@@ -188,6 +197,7 @@ joined-before-length : (a : ℕ) (ps : List Piece) →
 joined-before-length a [] = refl
 joined-before-length a (p ∷ ps) = grind arith
 
+-- it adds at most two pieces
 pub down-length : (place a : ℕ) (ps : List Piece) →
     length (overwritten_backward place a ps) ≤ length ps + 2
 down-length place a ps =
@@ -247,6 +257,7 @@ boundary place [] o = (refl, omega arith)
 boundary place (p ∷ ps) o =
     cut-boundary (nat_lt place p.len) place p ps refl o (λ q. boundary (place - p.len) ps q)
 
+-- and none where a piece goes on to it
 pub down-length-continues : (place a : ℕ) (ps : List Piece) → place < total ps →
     ContinuesBackward (place + 1) a ps → length (overwritten_backward place a ps) ≤ length ps
 down-length-continues place a ps lt r =
@@ -284,6 +295,7 @@ down-kept place a [] qs o s = grind (arith, s)
 down-kept place a (p ∷ ps) qs o s = down-here-kept (nat_lt place p.len) place a p ps qs refl o s
     (λ x y. down-kept (place - p.len) a ps qs x y)
 
+-- pieces behind change nothing of that
 pub down-extended : (place a : ℕ) (ps qs : List Piece) → ContinuesBackward place a ps →
     ContinuesBackward place a (ps ++ qs)
 down-extended place a ps qs r =
@@ -292,6 +304,7 @@ down-extended place a ps qs r =
     let i = r.inside in
     record { begins = k.0; inside = omega (arith, t, i); starts = k.1 }
 
+-- a right hint behind it
 pub backward-hint : (place a i : ℕ) (ps xs : List Piece) → xs ≡ overwritten_backward place a ps →
     i ≡ length (before place ps) → place < length (addresses ps) → IsHint xs i place
 backward-hint place a i ps xs e n lt =

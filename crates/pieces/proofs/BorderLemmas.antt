@@ -67,6 +67,7 @@ over-parts (suc k) a p q [] lt le e f g n = absurd (omega (arith, le))
 over-parts (suc k) a p q (x ∷ ps) lt le e f g n = let z : suc k - 1 ≡ k = omega arith in
     rw z (over-at k a x p q ps (omega (arith, le)) (rw z at e) f g n)
 
+-- a border moves up by one
 pub border-over : (place a k begin : ℕ) (p q : Piece) (ps : List Piece) → Solid ps →
     IsHint ps k begin → begin ≡ place → 0 < k → k < length ps → p ≡ get_or ps (k - 1) p →
     q ≡ get_or ps k q → grows a p ≡ true → 1 < q.len →
@@ -76,6 +77,7 @@ border-over place a k begin p q ps s h b lt le e f g n =
     rw (before-at k place ps s h.within t, behind-at k place ps s h.within t)
     (over-parts k a p q ps lt le e f g n)
 
+-- where the piece before the border grows
 pub border-index : (place a k begin : ℕ) (p : Piece) (ps : List Piece) → Solid ps →
     IsHint ps k begin → begin ≡ place → 0 < k → p ≡ get_or ps (k - 1) p → grows a p ≡ true →
     k ≡ length (joined a (before place ps))
@@ -141,6 +143,7 @@ down-length (suc k) place p (x ∷ ps) lt t e n =
     let u : total (take (suc k) ps) ≡ (place - x.len) + 1 = omega (arith, t, m, n) in
     rw w (ap (λ r. suc r) (down-length k (place - x.len) p ps (omega (arith, lt)) u e n))
 
+-- a border moves down by one
 pub border-down : (place a k begin : ℕ) (p q : Piece) (ps : List Piece) → Solid ps →
     IsHint ps k begin → begin ≡ place + 1 → 0 < k → k < length ps → p ≡ get_or ps (k - 1) p →
     q ≡ get_or ps k q → 1 < p.len → grows_down a q ≡ true →
@@ -151,6 +154,7 @@ border-down place a (suc k) begin p q ps s h b lt le e f n g =
     let z : suc k - 1 ≡ k = omega arith in
     rw z (down-at k a place p q ps s le (rw (sym b) h.begins) (rw z at e) f n g)
 
+-- where the piece behind it grows down
 pub down-index : (place k begin : ℕ) (p : Piece) (ps : List Piece) → IsHint ps k begin →
     begin ≡ place + 1 → 0 < k → k < length ps → p ≡ get_or ps (k - 1) p → 1 < p.len →
     k ≡ length (before place ps)
@@ -168,16 +172,19 @@ grown-over place a k begin ps xs s h b e =
     let t : total (take k ps) ≡ place = rw (sym b) h.begins in
     rw (before-at k place ps s h.within t, behind-at k place ps s h.within t) e
 
+-- the index behind a piece that grew
 pub grown-index : (place a k begin : ℕ) (ps : List Piece) → Solid ps → IsHint ps k begin →
     begin ≡ place → k ≡ length (joined a (take k ps)) → k ≡ length (joined a (before place ps))
 grown-index place a k begin ps s h b e =
     let t : total (take k ps) ≡ place = rw (sym b) h.begins in
     rw (before-at k place ps s h.within t) e
 
+-- and so of a part of the list
 pub index-grown-too : (k a : ℕ) (p : Piece) (xs : List Piece) → 0 < k → k ≤ length xs →
     p ≡ get_or xs (k - 1) p → grows a p ≡ true → k ≡ length (joined a (take k xs))
 index-grown-too k a p xs lt le e g = sym (index-grown k a p xs lt le e g)
 
+-- and at its end
 pub grown-last-index : (a k : ℕ) (ps : List Piece) → k ≡ length ps →
     k ≡ length (joined a (take k ps)) → k ≡ length (joined a ps)
 grown-last-index a k ps n e = let h : take k ps ≡ ps = rw n (take-whole ps) in rw h at e

@@ -27,6 +27,7 @@ put-at zero a q p xs le e g = let z : p ≡ q = e in rw (sym z, g) refl
 put-at (suc k) a q p [] le e g = grind arith
 put-at (suc k) a q p (x ∷ xs) le e g = ap (λ t. q ∷ t) (put-at k a x p xs (omega (arith, le)) e g)
 
+-- the piece in front grows
 pub join-grown : (k a : ℕ) (p : Piece) (xs : List Piece) → 0 < k → k ≤ length xs →
     p ≡ get_or xs (k - 1) p → grows a p ≡ true →
     set xs (k - 1) (grown p) ≡ joined a (take k xs) ++ drop k xs
@@ -35,6 +36,7 @@ join-grown (suc k) a p [] lt le e g = grind arith
 join-grown (suc k) a p (x ∷ xs) lt le e g = let z : suc k - 1 ≡ k = omega arith in
     let f = rw z at e in rw z (grown-at k a x p xs (omega (arith, le)) f g)
 
+-- or a piece comes behind it
 pub join-put : (k a : ℕ) (p : Piece) (xs : List Piece) → 0 < k → k ≤ length xs →
     p ≡ get_or xs (k - 1) p → grows a p ≡ false →
     insert xs k (one a) ≡ joined a (take k xs) ++ drop k xs
@@ -58,6 +60,7 @@ index-on-put (suc k) a q p [] le e g = grind arith
 index-on-put (suc k) a q p (x ∷ xs) le e g =
     ap (λ t. suc t) (index-on-put k a x p xs (omega (arith, le)) e g)
 
+-- a piece that grew is one of as many
 pub index-grown : (k a : ℕ) (p : Piece) (xs : List Piece) → 0 < k → k ≤ length xs →
     p ≡ get_or xs (k - 1) p → grows a p ≡ true → length (joined a (take k xs)) ≡ k
 index-grown zero a p xs lt le e g = grind arith
@@ -65,6 +68,7 @@ index-grown (suc k) a p [] lt le e g = grind arith
 index-grown (suc k) a p (x ∷ xs) lt le e g = let z : suc k - 1 ≡ k = omega arith in
     let f = rw z at e in index-on-grown k a x p xs (omega (arith, le)) f g
 
+-- a piece that came is one more
 pub index-put : (k a : ℕ) (p : Piece) (xs : List Piece) → 0 < k → k ≤ length xs →
     p ≡ get_or xs (k - 1) p → grows a p ≡ false → length (joined a (take k xs)) ≡ k + 1
 index-put zero a p xs lt le e g = grind arith
@@ -96,6 +100,7 @@ overwritten-steps place a k ps s t u e1 e2 e3 e4 =
       drop-append_seam (before place ps) (behind 1 (behind place ps)),
     ) refl
 
+-- a grown piece has one address more
 pub grown-steps : (s n : ℕ) (b : Bool) (a : ℕ) → ((not b || n == 1) && (s + n == a)) ≡ true →
     map (λ k. s + k) (range_with_len 0 (n + 1)) ≡ map
     (address_in (record { start = s; len = n; backward = b })) (range_with_len 0 n) ++ a ∷ []
@@ -125,6 +130,7 @@ joined-on-addresses a p [] = joined-here (grows a p) a p refl
 joined-on-addresses a p (q ∷ ps) = rw (joined-on-addresses a q ps)
     (sym (append_assoc (piece_addresses p) (addresses (q ∷ ps)) (a ∷ [])))
 
+-- one address more behind
 pub joined-addresses : (a : ℕ) (ps : List Piece) → addresses (joined a ps) ≡ addresses ps ++ a ∷ []
 joined-addresses a [] = let z : a + 0 ≡ a = omega arith in rw z refl
 joined-addresses a (p ∷ ps) = joined-on-addresses a p ps
@@ -134,6 +140,7 @@ joined-on-total : (a : ℕ) (p : Piece) (ps : List Piece) →
 joined-on-total a p [] = grind arith
 joined-on-total a p (q ∷ ps) = let h = joined-on-total a q ps in omega (arith, h)
 
+-- one more
 pub joined-total : (a : ℕ) (ps : List Piece) → total (joined a ps) ≡ total ps + 1
 joined-total a [] = omega arith
 joined-total a (p ∷ ps) = let h = joined-on-total a p ps in omega (arith, h)
@@ -143,6 +150,7 @@ joined-on-length : (a : ℕ) (p : Piece) (ps : List Piece) →
 joined-on-length a p [] = grind arith
 joined-on-length a p (q ∷ ps) = let h = joined-on-length a q ps in grind (arith, h)
 
+-- a piece more, unless the last one grows
 pub joined-length : (a : ℕ) (ps : List Piece) →
     length (joined a ps) ≡ (if ends a ps then length ps else length ps + 1)
 joined-length a [] = refl
@@ -168,6 +176,7 @@ joined-on-ends : (a : ℕ) (p : Piece) (ps : List Piece) → ends (a + 1) (joine
 joined-on-ends a p [] = grown-ends (grows a p) a p refl
 joined-on-ends a p (q ∷ ps) = rw (ends-on-joined (a + 1) a p q ps) (joined-on-ends a q ps)
 
+-- the next address goes on from it
 pub joined-ends : (a : ℕ) (ps : List Piece) → ends (a + 1) (joined a ps) ≡ true
 joined-ends a [] = grind (arith, common_steps)
 joined-ends a (p ∷ ps) = joined-on-ends a p ps
@@ -182,10 +191,12 @@ joined-on-solid : (a : ℕ) (p : Piece) (ps : List Piece) → 1 ≤ p.len → So
 joined-on-solid a p [] le s = joined-solid-here (grows a p) a p le
 joined-on-solid a p (q ∷ ps) le s = (le, joined-on-solid a q ps s.0 s.1)
 
+-- no empty piece comes
 pub joined-solid : (a : ℕ) (ps : List Piece) → Solid ps → Solid (joined a ps)
 joined-solid a [] s = (omega arith, tt)
 joined-solid a (p ∷ ps) s = joined-on-solid a p ps s.0 s.1
 
+-- there are no more pieces before a place
 pub before-few : (place : ℕ) (ps : List Piece) → place ≤ total ps →
     length (before place ps) ≤ length ps
 before-few place [] le = omega arith
@@ -198,6 +209,7 @@ before-solid-here true true place p rest f le s = tt
 before-solid-here true false place p rest f le s = (f refl, tt)
 before-solid-here false c place p rest f le s = (le, s)
 
+-- nor is one of them empty
 pub solid-before : (place : ℕ) (ps : List Piece) → Solid ps → Solid (before place ps)
 solid-before place [] s = tt
 solid-before place (p ∷ ps) s = before-solid-here (nat_lt place p.len) (place == 0) place p
@@ -211,11 +223,13 @@ behind-solid-here true false place p ps rest f s r =
     (let lt : place < p.len = f refl in omega (arith, lt), s.1)
 behind-solid-here false c place p ps rest f s r = r
 
+-- nor one of those behind
 pub solid-behind : (place : ℕ) (ps : List Piece) → Solid ps → Solid (behind place ps)
 solid-behind place [] s = tt
 solid-behind place (p ∷ ps) s = behind-solid-here (nat_lt place p.len) (place == 0) place p ps
     (behind (place - p.len) ps) (λ e. grind (arith, e)) s (solid-behind (place - p.len) ps s.1)
 
+-- the pieces before a place, of a split list
 pub cut-before : (place : ℕ) (ps : List Piece) →
     take (length (before place ps)) (split place ps) ≡ before place ps
 cut-before place ps = take-append_seam (before place ps) (behind place ps)
@@ -231,11 +245,13 @@ insert-by-parts [] (suc i) x le = grind arith
 insert-by-parts (y ∷ ys) zero x le = refl
 insert-by-parts (y ∷ ys) (suc i) x le = ap (λ t. y ∷ t) (insert-by-parts ys i x (omega (arith, le)))
 
+-- one fewer of the rest
 pub drop-drop : (xs : List ℕ) (i : ℕ) → drop 1 (drop i xs) ≡ drop (i + 1) xs
 drop-drop xs zero = refl
 drop-drop [] (suc i) = let e : suc i + 1 ≡ suc (i + 1) = omega arith in rw e refl
 drop-drop (x ∷ xs) (suc i) = let e : suc i + 1 ≡ suc (i + 1) = omega arith in rw e (drop-drop xs i)
 
+-- one address in place of another
 pub overwritten-addresses : (place a : ℕ) (ps : List Piece) → place < total ps →
     addresses (overwritten place a ps) ≡ slice_set (addresses ps) place a
 overwritten-addresses place a ps lt =
@@ -253,6 +269,7 @@ overwritten-addresses place a ps lt =
       append_assoc (take place (addresses ps)) (a ∷ []) (drop (place + 1) (addresses ps)),
     ) h
 
+-- one address before another
 pub inserted-addresses : (place a : ℕ) (ps : List Piece) → place ≤ total ps →
     addresses (inserted place a ps) ≡ insert (addresses ps) place a
 inserted-addresses place a ps le =
@@ -264,6 +281,7 @@ inserted-addresses place a ps le =
       addresses-behind place ps le,
     ) (insert-by-parts (addresses ps) place a (omega (arith, n, le)))
 
+-- a write over changes no length
 pub overwritten-total : (place a : ℕ) (ps : List Piece) → place < total ps →
     total (overwritten place a ps) ≡ total ps
 overwritten-total place a ps lt =
@@ -275,6 +293,7 @@ overwritten-total place a ps lt =
     let s = total-append (joined a (before place ps)) (behind 1 (behind place ps)) in
     omega (arith, t, u, b, j, s)
 
+-- an insertion adds one
 pub inserted-total : (place a : ℕ) (ps : List Piece) → place ≤ total ps →
     total (inserted place a ps) ≡ total ps + 1
 inserted-total place a ps le =
@@ -284,16 +303,19 @@ inserted-total place a ps le =
     let s = total-append (joined a (before place ps)) (behind place ps) in
     omega (arith, t, b, j, s)
 
+-- two lists without an empty piece
 pub solid-append : (ps qs : List Piece) → Solid ps → Solid qs → Solid (ps ++ qs)
 solid-append [] qs s t = t
 solid-append (p ∷ ps) qs s t = (s.0, solid-append ps qs s.1 t)
 
+-- a write over leaves no empty piece
 pub overwritten-solid : (place a : ℕ) (ps : List Piece) → Solid ps → Solid (overwritten place a ps)
 overwritten-solid place a ps s =
     solid-append (joined a (before place ps)) (behind 1 (behind place ps))
     (joined-solid a (before place ps) (solid-before place ps s))
     (solid-behind 1 (behind place ps) (solid-behind place ps s))
 
+-- nor does an insertion
 pub inserted-solid : (place a : ℕ) (ps : List Piece) → Solid ps → Solid (inserted place a ps)
 inserted-solid place a ps s = solid-append (joined a (before place ps)) (behind place ps)
     (joined-solid a (before place ps) (solid-before place ps s)) (solid-behind place ps s)
@@ -305,10 +327,12 @@ offset-past [] ys c place e = let z : place ≡ c = omega (arith, e) in rw z ref
 offset-past (x ∷ xs) ys c place e = let h =
     offset-past xs ys c (place - x.len) (omega (arith, e)) in grind (arith, common_steps, h)
 
+-- the front is the begin of a piece
 pub offset-none : (ys : List Piece) → Solid ys → offset 0 ys ≡ 0
 offset-none [] s = refl
 offset-none (y ∷ ys) s = grind (arith, s.0)
 
+-- before it there is nothing
 pub before-none : (ys : List Piece) → Solid ys → before 0 ys ≡ []
 before-none [] s = refl
 before-none (y ∷ ys) s = grind (arith, s.0)
@@ -322,6 +346,7 @@ continues-past xs ys a place e s t =
     rw (before-past xs ys 0 place z, before-none ys s) (append-nil xs) in
     record { begins = rw (offset-past xs ys 0 place z) (offset-none ys s); ends = rw b t }
 
+-- the next write goes on from one over another
 pub overwritten-continues : (place a : ℕ) (ps : List Piece) → place < total ps → Solid ps →
     Continues (place + 1) (a + 1) (overwritten place a ps)
 overwritten-continues place a ps lt s =
@@ -331,6 +356,7 @@ overwritten-continues place a ps lt s =
     (omega (arith, b, j)) (solid-behind 1 (behind place ps) (solid-behind place ps s))
     (joined-ends a (before place ps))
 
+-- and from an insertion
 pub inserted-continues : (place a : ℕ) (ps : List Piece) → place ≤ total ps → Solid ps →
     Continues (place + 1) (a + 1) (inserted place a ps)
 inserted-continues place a ps le s =
@@ -339,6 +365,7 @@ inserted-continues place a ps le s =
     continues-past (joined a (before place ps)) (behind place ps) (a + 1) (place + 1)
     (omega (arith, b, j)) (solid-behind place ps s) (joined-ends a (before place ps))
 
+-- and from one behind all
 pub joined-continues : (a n : ℕ) (ps : List Piece) → n ≡ total ps →
     Continues (n + 1) (a + 1) (joined a ps)
 joined-continues a n ps e =
@@ -347,21 +374,25 @@ joined-continues a n ps e =
     (joined-ends a ps) in
     rw (append-nil (joined a ps)) at r
 
+-- the same of the list that a write left
 pub overwritten-continues-at : (place a : ℕ) (ps ps' : List Piece) → ps' ≡ overwritten place a ps →
     place < length (addresses ps) → Solid ps → Continues (place + 1) (a + 1) ps'
 overwritten-continues-at place a ps ps' e lt s =
     rw e (overwritten-continues place a ps (let n = length-addresses ps in omega (arith, lt, n)) s)
 
+-- and that an insertion left
 pub inserted-continues-at : (place a : ℕ) (ps ps' : List Piece) → ps' ≡ inserted place a ps →
     place ≤ length (addresses ps) → Solid ps → Continues (place + 1) (a + 1) ps'
 inserted-continues-at place a ps ps' e lt s =
     rw e (inserted-continues place a ps (let n = length-addresses ps in omega (arith, lt, n)) s)
 
+-- and that one behind all left
 pub joined-continues-at : (a : ℕ) (ps ps' : List Piece) → ps' ≡ joined a ps →
     Continues (length (addresses ps) + 1) (a + 1) ps'
 joined-continues-at a ps ps' e =
     rw e (joined-continues a (length (addresses ps)) ps (length-addresses ps))
 
+-- the steps of an insertion
 pub inserted-steps : (place a k : ℕ) (ps xs ys : List Piece) → k ≡ length (before place ps) →
     xs ≡ split place ps → ys ≡ joined a (take k xs) ++ drop k xs → ys ≡ inserted place a ps
 inserted-steps place a k ps xs ys ek ex ey =
@@ -381,6 +412,7 @@ drop-pieces_before : (xs : List Piece) → drop (length xs) xs ≡ []
 drop-pieces_before [] = refl
 drop-pieces_before (x ∷ xs) = drop-pieces_before xs
 
+-- the steps of one behind all
 pub append-steps : (a k : ℕ) (ps ys : List Piece) → k ≡ length ps →
     ys ≡ joined a (take k ps) ++ drop k ps → ys ≡ joined a ps
 append-steps a k ps ys ek ey =
@@ -401,6 +433,7 @@ split-length : (place : ℕ) (ps : List Piece) → offset place ps ≡ 0 →
 split-length place ps o = let h = ap (λ t. length t) (split_same place ps o) in
     let e = length-append (before place ps) (behind place ps) in omega (arith, h, e)
 
+-- a write that goes on adds no piece
 pub overwritten-length-continues : (place a : ℕ) (ps : List Piece) → Continues place a ps →
     length (overwritten place a ps) ≤ length ps
 overwritten-length-continues place a ps r =
@@ -412,6 +445,7 @@ overwritten-length-continues place a ps r =
     let e = length-append (joined a (before place ps)) (behind 1 (behind place ps)) in
     omega (arith, j, b, h, e)
 
+-- an insertion adds at most two pieces
 pub inserted-length : (place a : ℕ) (ps : List Piece) → length (inserted place a ps) ≤ length ps + 2
 inserted-length place a ps =
     let j = joined-length a (before place ps) in
@@ -419,6 +453,7 @@ inserted-length place a ps =
     let e = length-append (joined a (before place ps)) (behind place ps) in
     grind (arith, j, b, e)
 
+-- and none where a piece goes on to it
 pub inserted-length-continues : (place a : ℕ) (ps : List Piece) → Continues place a ps →
     length (inserted place a ps) ≤ length ps
 inserted-length-continues place a ps r =
@@ -435,6 +470,7 @@ before-all ps =
     let e : before (total ps) (ps ++ []) ≡ ps = rw h (append-nil ps) in
     rw (append-nil ps) at e
 
+-- nor does one behind all
 pub joined-length-continues : (place a : ℕ) (ps : List Piece) → place ≡ length (addresses ps) →
     Continues place a ps → length (joined a ps) ≤ length ps
 joined-length-continues place a ps e r =
@@ -457,6 +493,7 @@ continues-kept-here false place p ps qs e o s f = let z : offset (place - p.len)
     rw e at o in
     let k = f z in rw e (k.0, ap (λ t. p ∷ t) k.1)
 
+-- pieces behind change nothing before a border
 pub continues-kept : (place : ℕ) (ps qs : List Piece) → offset place ps ≡ 0 → Solid qs →
     (offset place (ps ++ qs) ≡ 0) × (before place (ps ++ qs) ≡ before place ps)
 continues-kept place [] qs o s = let z : place ≡ 0 = o in rw z (offset-none qs s, before-none qs s)
@@ -464,6 +501,7 @@ continues-kept place (p ∷ ps) qs o s =
     continues-kept-here (nat_lt place p.len) place p ps qs refl o s
     (λ e. continues-kept (place - p.len) ps qs e s)
 
+-- so what goes on still does
 pub continues-extended : (place a : ℕ) (ps qs : List Piece) → Solid qs → Continues place a ps →
     Continues place a (ps ++ qs)
 continues-extended place a ps qs s r = let k = continues-kept place ps qs r.begins s in
@@ -479,6 +517,7 @@ shorten-one zero p (x ∷ y ∷ xs) lt e n s = let m : x.len ≡ 1 = rw e at n i
 shorten-one (suc k) p (x ∷ xs) lt e n s =
     ap (λ t. x ∷ t) (shorten-one k p xs (omega (arith, lt)) e n s)
 
+-- a piece without its first address
 pub shorten-more : (k : ℕ) (p : Piece) (xs : List Piece) → k < length xs → p ≡ get_or xs k p →
     1 < p.len → slice_set xs k (back 1 p) ≡ take k xs ++ behind 1 (drop k xs)
 shorten-more k p [] lt e n = grind arith
@@ -491,6 +530,7 @@ some-pieces : (ps : List Piece) → 0 < total ps → 0 < length ps
 some-pieces [] lt = grind arith
 some-pieces (p ∷ ps) lt = omega arith
 
+-- the index of a write is within the list
 pub overwritten-index : (place k : ℕ) (ps xs : List Piece) → place < total ps →
     k ≡ length (before place ps) → xs ≡ split place ps → k < length xs
 overwritten-index place k ps xs lt ek ex =
@@ -499,6 +539,7 @@ overwritten-index place k ps xs lt ek ex =
     let e = length-append (before place ps) (behind place ps) in
     rw (ek, ex) (omega (arith, b, e))
 
+-- the pieces from there on
 pub overwritten-drop : (place k : ℕ) (ps xs : List Piece) → Solid ps →
     k ≡ length (before place ps) → xs ≡ split place ps → Solid (drop k xs)
 overwritten-drop place k ps xs s ek ex =
@@ -514,6 +555,7 @@ out-total place ps xs e lt =
     let s = total-append (before place ps) (behind 1 (behind place ps)) in
     rw e (omega (arith, t, u, b, s))
 
+-- a split changes no length
 pub split-total : (place : ℕ) (ps xs : List Piece) → xs ≡ split place ps → place ≤ total ps →
     total xs ≡ total ps
 split-total place ps xs e le =
@@ -522,6 +564,7 @@ split-total place ps xs e le =
     let s = total-append (before place ps) (behind place ps) in
     rw e (omega (arith, t, b, s))
 
+-- an index within the list with one address out
 pub out-within : (place i : ℕ) (ps xs : List Piece) → xs ≡ before place ps
     ++ behind 1 (behind place ps) → i ≡ length (before place ps) → i ≤ length xs
 out-within place i ps xs e n = let l =
@@ -537,6 +580,7 @@ out-parts : (b c ys : List Piece) (i : ℕ) → ys ≡ b ++ c → i ≡ length b
     take i ys ++ behind 1 (drop i ys) ≡ b ++ behind 1 c
 out-parts b c ys i e n = rw (e, n, take-append_seam b c, drop-append_seam b c) refl
 
+-- the first address of a piece taken out
 pub out-first : (place i : ℕ) (ps xs : List Piece) → offset place ps ≡ 0 →
     i ≡ pieces_before place ps → xs ≡ take i ps ++ behind 1 (drop i ps) →
     xs ≡ before place ps ++ behind 1 (behind place ps)
@@ -544,6 +588,7 @@ out-first place i ps xs e n x =
     rw x (out-parts (before place ps) (behind place ps) ps i (sym (split_same place ps e))
     (rw (before_same place ps e) n))
 
+-- behind the front there is all
 pub behind-none : (ys : List Piece) → Solid ys → behind 0 ys ≡ ys
 behind-none [] s = refl
 behind-none (y ∷ ys) s = grind (arith, s.0)
@@ -580,6 +625,7 @@ out-at place (q ∷ ps) p s lt n g =
     (λ e. out-at (place - q.len) ps p s.1 (rw e at lt) (rw e at n)
     (later-piece p q ps (pieces_before (place - q.len) ps) (rw e at g)))
 
+-- the last address of a piece taken out
 pub out-last : (place i o : ℕ) (p : Piece) (ps : List Piece) → Solid ps →
     i ≡ pieces_before place ps → o ≡ offset place ps → 0 < o → o + 1 ≡ p.len → p ≡ get_or ps i p →
     set ps i (front o p) ≡ before place ps ++ behind 1 (behind place ps)
@@ -602,6 +648,7 @@ overwritten-hint place a i ps xs e n lt =
           (omega (arith, b, j));
     })
 
+-- a right hint behind an insertion
 pub inserted-hint : (place a i : ℕ) (ps xs : List Piece) → xs ≡ inserted place a ps →
     i ≡ length (joined a (before place ps)) → place < length (addresses ps) →
     IsHint xs i (place + 1)
@@ -617,12 +664,14 @@ inserted-hint place a i ps xs e n lt =
               (omega (arith, b, j));
     })
 
+-- and behind all
 pub joined-hint : (a i n : ℕ) (ps xs : List Piece) → xs ≡ joined a ps → i ≡ length (joined a ps) →
     n ≡ total ps → IsHint xs i (n + 1)
 joined-hint a i n ps xs e f g =
     let j = joined-total a ps in
     rw e (hint-end (joined a ps) i (n + 1) f (omega (arith, j, g)))
 
+-- a place of the addresses is one of the pieces
 pub length-addresses-at : (ps : List Piece) (place : ℕ) → place < length (addresses ps) →
     place < total ps
 length-addresses-at ps place lt = let n = length-addresses ps in omega (arith, n, lt)

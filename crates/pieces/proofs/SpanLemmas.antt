@@ -66,6 +66,7 @@ length-set [] i a = refl
 length-set (x ∷ xs) zero a = refl
 length-set (x ∷ xs) (suc i) a = ap suc (length-set xs i a)
 
+-- two items in place of others
 pub length-both-set : (xs : List Piece) (i j : ℕ) (a b : Piece) →
     length (slice_set (slice_set xs i a) j b) ≡ length xs
 length-both-set xs i j a b = trans (length-set (slice_set xs i a) j b) (length-set xs i a)
@@ -136,6 +137,7 @@ moved_span (suc k) place a i begin p q ps s h b w lt e f g n =
       hint = rw (first, y) at next.hint;
     }
 
+-- a border moves up by so many
 pub border_moved : (k place a i begin : ℕ) (p q : Piece) (ps : List Piece) → Solid ps →
     IsHint ps i begin → begin ≡ place → place + k ≤ total ps → 0 < i → i < length ps →
     p ≡ get_or ps (i - 1) p → q ≡ get_or ps i q → grows a p ≡ true → k < q.len → 1 ≤ k →
@@ -147,6 +149,7 @@ border_moved (suc k) place a (suc i) begin p q ps s h b w some lt e f g n one =
     let z : suc i - 1 ≡ i = omega arith in
     rw z (moved_span k place a i begin p q ps s h b w lt (rw z at e) f g n)
 
+-- the pieces of a row
 pub span_items : (k place a i begin : ℕ) (p q : Piece) (ps : List Piece) → Solid ps →
     IsHint ps i begin → begin ≡ place → place + k ≤ total ps → 0 < i → i < length ps →
     p ≡ get_or ps (i - 1) p → q ≡ get_or ps i q → grows a p ≡ true → k < q.len → 1 ≤ k →
@@ -154,6 +157,7 @@ pub span_items : (k place a i begin : ℕ) (p q : Piece) (ps : List Piece) → S
 span_items k place a i begin p q ps s h b w some lt e f g n one =
     (border_moved k place a i begin p q ps s h b w some lt e f g n one).items
 
+-- a right hint behind a row
 pub span_hint : (k place a i begin : ℕ) (p q : Piece) (ps : List Piece) → Solid ps →
     IsHint ps i begin → begin ≡ place → place + k ≤ total ps → 0 < i → i < length ps →
     p ≡ get_or ps (i - 1) p → q ≡ get_or ps i q → grows a p ≡ true → k < q.len → 1 ≤ k →
@@ -162,6 +166,7 @@ span_hint k place a i begin p q ps s h b w some lt e f g n one =
     let y : suc (i - 1) ≡ i = omega (arith, some) in
     rw (y, sym b) at (border_moved k place a i begin p q ps s h b w some lt e f g n one).hint
 
+-- a hint that stays
 pub hint_still : (i begin : ℕ) (ps : List Piece) → IsHint ps i begin → IsHint ps i (begin + 0)
 hint_still i begin ps h = let z : begin + 0 ≡ begin = omega arith in rw z h
 
@@ -173,6 +178,7 @@ span-total (suc k) place a ps le =
     let one = overwritten-total place a ps (omega (arith, le)) in
     trans (span-total k (place + 1) (a + 1) (overwritten place a ps) (omega (arith, le, one))) one
 
+-- a row leaves no empty piece
 pub span-solid : (k place a : ℕ) (ps : List Piece) → Solid ps →
     Solid (overwritten_span k place a ps)
 span-solid zero place a ps s = s

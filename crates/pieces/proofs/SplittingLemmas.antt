@@ -14,24 +14,29 @@ here : (b : Bool) (place : ℕ) (p : Piece) (ps : List Piece) → nat_lt place p
     × (offset place (p ∷ ps) ≡ (if b then place else offset (place - p.len) ps))
 here b place p ps e = rw e (refl, refl)
 
+-- a split at a border changes nothing
 pub split_same : (place : ℕ) (ps : List Piece) → offset place ps ≡ 0 → split place ps ≡ ps
 split_same place [] e = refl
 split_same place (p ∷ ps) e = grind (arith, common_steps, split_same (place - p.len) ps)
 
+-- as many pieces before a border
 pub before_same : (place : ℕ) (ps : List Piece) → offset place ps ≡ 0 →
     length (before place ps) ≡ pieces_before place ps
 before_same place [] e = refl
 before_same place (p ∷ ps) e = grind (arith, common_steps, before_same (place - p.len) ps)
 
+-- and one more before a place within a piece
 pub before_more : (place : ℕ) (ps : List Piece) → place ≤ total ps → 0 < offset place ps →
     length (before place ps) ≡ pieces_before place ps + 1
 before_more place [] le e = grind arith
 before_more place (p ∷ ps) le e = grind (arith, common_steps, before_more (place - p.len) ps)
 
+-- a split adds at most one piece
 pub length-split : (place : ℕ) (ps : List Piece) → length (split place ps) ≤ length ps + 1
 length-split place [] = omega arith
 length-split place (p ∷ ps) = grind (arith, common_steps, length-split (place - p.len) ps)
 
+-- a piece split into two
 pub split_two : (place : ℕ) (ps : List Piece) (p : Piece) → place ≤ total ps → 0 < offset place ps →
     p ≡ get_or ps (pieces_before place ps) p →
     insert (set ps (pieces_before place ps) (back (offset place ps) p)) (pieces_before place ps)
@@ -39,14 +44,17 @@ pub split_two : (place : ℕ) (ps : List Piece) (p : Piece) → place ≤ total 
 split_two place [] p le pos e = grind arith
 split_two place (q ∷ ps) p le pos e = grind (arith, common_steps, split_two (place - q.len) ps p)
 
+-- which is one more
 pub split_longer : (place : ℕ) (ps : List Piece) → place ≤ total ps → 0 < offset place ps →
     length (split place ps) ≡ length ps + 1
 split_longer place [] le e = grind arith
 split_longer place (p ∷ ps) le e = grind (arith, common_steps, split_longer (place - p.len) ps)
 
+-- a piece has as many addresses as it says
 pub length-piece : (p : Piece) → length (piece_addresses p) ≡ p.len
 length-piece p = length-map-range_with_len (address_in p) 0 p.len
 
+-- each of them by its index
 pub at-piece : (p : Piece) (k : ℕ) → k < p.len → get_or (piece_addresses p) k 0 ≡ address_in p k
 at-piece p k lt = get_or-map-range_with_len (address_in p) 0 p.len k k 0 lt (omega arith)
 
@@ -65,6 +73,7 @@ at-later : (place : ℕ) (p : Piece) (ps : List Piece) → p.len ≤ place →
 at-later place p ps le = get-past (piece_addresses p) (addresses ps) (place - p.len) p.len place
     (length-piece p) (omega (arith, le))
 
+-- an item of a longer list
 pub get-more : (p : Piece) (ps : List Piece) (w : ℕ) (d : Piece) →
     get_or (p ∷ ps) (w + 1) d ≡ get_or ps w d
 get-more p ps w d = grind (arith, common_steps)
@@ -75,6 +84,7 @@ picked : (b : Bool) (x place w o : ℕ) (p : Piece) (ps : List Piece) (d : Piece
 picked true x place w o p ps d f g = f refl
 picked false x place w o p ps d f g = rw (get-more p ps w d) (g refl)
 
+-- the address at a place, by its piece
 pub address_at : (place : ℕ) (ps : List Piece) (d : Piece) → place < total ps →
     get_or (addresses ps) place 0 ≡ address_in (get_or ps (pieces_before place ps) d)
     (offset place ps)
@@ -92,21 +102,25 @@ before-past [] ys c place e = let z : place ≡ c = omega (arith, e) in rw z ref
 before-past (x ∷ xs) ys c place e = let h =
     before-past xs ys c (place - x.len) (omega (arith, e)) in grind (arith, common_steps, h)
 
+-- behind a place that lies in the second list
 pub behind-past : (xs ys : List Piece) (c place : ℕ) → total xs + c ≡ place →
     behind place (xs ++ ys) ≡ behind c ys
 behind-past [] ys c place e = let z : place ≡ c = omega (arith, e) in rw z refl
 behind-past (x ∷ xs) ys c place e = let h =
     behind-past xs ys c (place - x.len) (omega (arith, e)) in grind (arith, common_steps, h)
 
+-- the length of what stands before a place
 pub total-before : (place : ℕ) (ps : List Piece) → place ≤ total ps →
     total (before place ps) ≡ place
 total-before place [] le = grind arith
 total-before place (p ∷ ps) le = grind (arith, common_steps, total-before (place - p.len) ps)
 
+-- the length of two lists
 pub total-append : (xs ys : List Piece) → total (xs ++ ys) ≡ total xs + total ys
 total-append [] ys = omega arith
 total-append (x ∷ xs) ys = let h = total-append xs ys in omega (arith, h)
 
+-- the length of what stands behind a place
 pub total-behind : (place : ℕ) (ps : List Piece) → place ≤ total ps →
     total (behind place ps) + place ≡ total ps
 total-behind place [] le = grind arith
@@ -122,6 +136,7 @@ pieces_before-drop [] (suc i) begin place le e lt = grind arith
 pieces_before-drop (p ∷ ps) (suc i) begin place le e lt = let h =
     pieces_before-drop ps i (begin - p.len) (place - p.len) in grind (arith, common_steps, h)
 
+-- how far into a piece a place lies, from a later piece on
 pub offset-drop : (ps : List Piece) (i begin place : ℕ) → i ≤ length ps →
     total (take i ps) ≡ begin → begin ≤ place → offset (place - begin) (drop i ps) ≡ offset place ps
 offset-drop ps zero begin place le e lt = let z : place - begin ≡ place = omega (arith, e) in
@@ -130,6 +145,7 @@ offset-drop [] (suc i) begin place le e lt = grind arith
 offset-drop (p ∷ ps) (suc i) begin place le e lt = let h =
     offset-drop ps i (begin - p.len) (place - p.len) in grind (arith, common_steps, h)
 
+-- the length of both parts
 pub total-drop : (ps : List Piece) (i : ℕ) → total (take i ps) + total (drop i ps) ≡ total ps
 total-drop ps zero = omega arith
 total-drop [] (suc i) = omega arith
@@ -161,10 +177,12 @@ some-before ps (suc i) begin place e lt = omega arith
 pub hint-front : (ps : List Piece) → IsHint ps 0 0
 hint-front ps = record { within = omega arith; begins = refl }
 
+-- all of a list
 pub take-whole : (xs : List Piece) → take (length xs) xs ≡ xs
 take-whole [] = refl
 take-whole (x ∷ xs) = ap (λ t. x ∷ t) (take-whole xs)
 
+-- a right hint at the end
 pub hint-end : (ps : List Piece) (i n : ℕ) → i ≡ length ps → n ≡ total ps → IsHint ps i n
 hint-end ps i n e f = record { within = omega (arith, e); begins = rw (e, f, take-whole ps) refl }
 
