@@ -22,7 +22,8 @@ use Rattle.midi_bindings.specs.declared.binding.BindKind.TheVariants.{On, Off, P
 use Rattle.midi_bindings.specs.declared.binding.Binding.{Binding}
 use Rattle.midi_bindings.specs.declared.binding.Binding.TheVariants.{Give, Sweep}
 use Rattle.text_lines.specs.Targets.{target_word}
-use Rattle.midi_bindings.specs.Lines.{kind_word, press_words, binding_words, binding_line, is_press, is_binding, is_kind, is_form, HasWords}
+use Rattle.midi_bindings.specs.Lines.{kind_word, binding_words, binding_line, is_binding, is_kind, is_form, HasWords}
+use Rattle.text_lines.specs.Presses.{press_words, is_press}
 use Rattle.text_lines.proofs.TargetLemmas.{target_comes_back, target_is_short}
 use Rattle.text_lines.proofs.TableLemmas.{verb_name_is_word, control_name_is_word, verb_name_is_some, control_name_is_some, in_range_is_short, short_has_few_digits}
 

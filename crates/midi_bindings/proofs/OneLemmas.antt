@@ -19,7 +19,8 @@ use Rattle.midi_bindings.specs.declared.binding.BindKind.TheVariants.{On, Off, P
 use Rattle.midi_bindings.specs.declared.binding.Binding.{Binding}
 use Rattle.midi_bindings.specs.declared.binding.Binding.TheVariants.{Give, Sweep}
 use Rattle.text_lines.specs.Targets.{target_word}
-use Rattle.midi_bindings.specs.Lines.{kind_word, press_words, binding_words, binding_line, is_press, is_binding, HasWords}
+use Rattle.midi_bindings.specs.Lines.{kind_word, binding_words, binding_line, is_binding, HasWords}
+use Rattle.text_lines.specs.Presses.{press_words, is_press}
 use Rattle.text_lines.proofs.TableLemmas.{verb_is_one, control_is_one, short_has_few_digits}
 use Rattle.midi_bindings.proofs.BindingLemmas.{target_is_one, binding_has_words, words_of_line}
 

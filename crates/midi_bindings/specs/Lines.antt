@@ -7,14 +7,13 @@ use Rattle.std.specs.Prelude.{◌≡◌, ◌<◌, ◌≤◌, ◌≤ℤ◌, ℕ, 
 use Rattle.std.specs.Str.{bytes_eq}
 use Rattle.std.specs.Fmt.{decimal, signed_decimal}
 use Rattle.sl_commands.specs.declared.command.Command.{Command}
-use Rattle.sl_commands.specs.declared.command.Command.TheVariants.{Down, Up, Hit}
 use Rattle.sl_commands.specs.declared.command.Target.{Target}
 use Rattle.sl_commands.specs.declared.control.Control.{Control}
 use Rattle.sl_commands.specs.Commands.{is_target}
 use Rattle.sl_commands.specs.Controls.{control_name, is_of_loop, is_in_range}
-use Rattle.sl_commands.specs.Verbs.{verb_name}
 use Rattle.text_lines.specs.Lines.{line_of}
 use Rattle.text_lines.specs.Targets.{target_word}
+use Rattle.text_lines.specs.Presses.{press_words, is_press}
 use Rattle.text_lines.specs.Shapes.{have_shapes}
 use Rattle.text_lines.specs.declared.shape.Shape.TheVariants.{Number, Integer, Word}
 use Rattle.midi_bindings.specs.declared.binding.BindKind.{BindKind}
@@ -29,13 +28,6 @@ kind_word Off = codes "off"
 kind_word Program = codes "pc"
 kind_word High = codes "cc"
 kind_word Low = codes "co"
-
--- the words of a verb that is given; other commands have none
-abbrev pub press_words : Command → List (List ℕ)
-press_words (Down target verb) = codes "down" ∷ target_word target ∷ verb_name verb ∷ []
-press_words (Up target verb) = codes "up" ∷ target_word target ∷ verb_name verb ∷ []
-press_words (Hit target verb) = codes "hit" ∷ target_word target ∷ verb_name verb ∷ []
-press_words _ = []
 
 -- the words of what a sweep sets
 abbrev pub set_words : Target → Control → ℤ → ℤ → List (List ℕ)
@@ -84,13 +76,6 @@ is_form (kind ∷ channel ∷ number ∷ word ∷ words) =
     && (is_give_form kind word words || is_sweep_form kind word words)
 is_form _ = false
 
--- a verb is given to a loop that is there
-abbrev pub is_press : ℕ → Command → Bool
-is_press loops (Down target verb) = is_target loops target
-is_press loops (Up target verb) = is_target loops target
-is_press loops (Hit target verb) = is_target loops target
-is_press loops _ = false
-
 -- the binding says nothing that is out of range, for so many loops
 abbrev pub is_binding : ℕ → Binding → Bool
 is_binding loops (Give kind channel number command) = nat_lt channel 16 && nat_lt number 128
@@ -98,10 +83,6 @@ is_binding loops (Give kind channel number command) = nat_lt channel 16 && nat_l
 is_binding loops (Sweep channel number target control low high) =
     nat_lt channel 16 && nat_lt number 128 && is_target loops target && is_of_loop control
     && is_in_range control low loops && is_in_range control high loops
-
--- what a press says has words: an index of 8 bits
-abbrev pub SpellPress : List (List ℕ) → Command → Type 0
-SpellPress words command = (words ≡ press_words command) × IsTrue (is_press 256 command)
 
 -- the value has 32 bits
 abbrev pub IsShort : ℤ → Type 0

@@ -1,7 +1,8 @@
 //! Bindings: what an event is bound to.
 
 ghost use Rattle.std.specs.Prelude.{◌≡◌};
-ghost use Rattle.midi_bindings.specs.Lines.{kind_word, is_press, is_binding};
+ghost use Rattle.midi_bindings.specs.Lines.{kind_word, is_binding};
+ghost use Rattle.text_lines.specs.Presses.{is_press};
 
 use sl_commands::{Command, Control, Target, in_range};
 

@@ -50,10 +50,8 @@ impl Bindings {
         ensures ok { OnOk result (self.new ≡ self.old ++ binding ∷ []) }
         ensures unchanged { OnErr result (self.new ≡ self.old) }
     {
-        match self.lines.push(binding) {
-            Ok(()) => Ok(()),
-            Err(_) => Err(Memory),
-        }
+        self.lines.push(binding)?;
+        Ok(())
     }
 
     /// The lines, in order.

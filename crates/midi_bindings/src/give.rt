@@ -3,64 +3,15 @@
 ghost use Rattle.std.specs.Prelude.{◌≡◌, ◌≢◌, ℕ, ℤ, ◌∷◌, map, List, IfSome, IfNone, IsTrue};
 ghost use Rattle.sl_commands.specs.declared.command.Target.{Target};
 ghost use Rattle.sl_commands.specs.declared.command.Command.{Command};
-ghost use Rattle.sl_commands.specs.declared.verb.Verb.{Verb};
 ghost use Rattle.sl_commands.specs.declared.control.Control.{Control};
 ghost use Rattle.midi_bindings.specs.declared.binding.BindKind.{BindKind};
 ghost use Rattle.midi_bindings.specs.declared.binding.Binding.{Binding};
-ghost use Rattle.midi_bindings.specs.Lines.{Spell, SpellPress, SpellSet};
+ghost use Rattle.midi_bindings.specs.Lines.{Spell, SpellSet};
 
 use crate::binding::Binding;
 use crate::word::{channel_of, kind_of, value_of};
-use sl_commands::{Command, Control, Target, control_of, verb_of};
-use text_lines::{behind, number_of, target_of};
-
-fn down_of(words: &[&[u8]]) -> Option<Command>
-    ensures found { IfSome result (λ command. SpellPress (map (λ w. w.now) words.now) command) }
-    ensures only { IfNone result ((target : Target) (verb : Verb) →
-        ¬ SpellPress (map (λ w. w.now) words.now) (Command.Down target verb)) }
-{
-    match behind(words, b"down")? {
-        [target, verb] => Some(Command::Down(target_of(target)?, verb_of(verb)?)),
-        _ => None,
-    }
-}
-
-fn up_of(words: &[&[u8]]) -> Option<Command>
-    ensures found { IfSome result (λ command. SpellPress (map (λ w. w.now) words.now) command) }
-    ensures only { IfNone result ((target : Target) (verb : Verb) →
-        ¬ SpellPress (map (λ w. w.now) words.now) (Command.Up target verb)) }
-{
-    match behind(words, b"up")? {
-        [target, verb] => Some(Command::Up(target_of(target)?, verb_of(verb)?)),
-        _ => None,
-    }
-}
-
-fn hit_of(words: &[&[u8]]) -> Option<Command>
-    ensures found { IfSome result (λ command. SpellPress (map (λ w. w.now) words.now) command) }
-    ensures only { IfNone result ((target : Target) (verb : Verb) →
-        ¬ SpellPress (map (λ w. w.now) words.now) (Command.Hit target verb)) }
-{
-    match behind(words, b"hit")? {
-        [target, verb] => Some(Command::Hit(target_of(target)?, verb_of(verb)?)),
-        _ => None,
-    }
-}
-
-/// The press that words spell, whatever loops there are.
-fn press_of(words: &[&[u8]]) -> Option<Command>
-    ensures found { IfSome result (λ command. SpellPress (map (λ w. w.now) words.now) command) }
-    ensures only { IfNone result
-        ((command : Command) → ¬ SpellPress (map (λ w. w.now) words.now) command) }
-{
-    if let Some(command) = down_of(words) {
-        return Some(command);
-    }
-    if let Some(command) = up_of(words) {
-        return Some(command);
-    }
-    hit_of(words)
-}
+use sl_commands::{Control, Target, control_of};
+use text_lines::{behind, number_of, press_of, target_of};
 
 fn give_of(words: &[&[u8]]) -> Option<Binding>
     ensures found { IfSome result (λ binding. Spell (map (λ w. w.now) words.now) binding) }

@@ -159,8 +159,6 @@ fn write_bindings(alloc: Global, bindings: &[Binding]) -> Result<String, AllocEr
 pub fn bindings_text(alloc: Global, bindings: &Bindings) -> Result<Vec<u8>, Memory>
     ensures { IfOk result (λ text. text.items ≡ bindings_text bindings.now) }
 {
-    match write_bindings(alloc, bindings.as_slice()) {
-        Ok(text) => Ok(text.into_bytes()),
-        Err(_) => Err(Memory),
-    }
+    let text = write_bindings(alloc, bindings.as_slice())?;
+    Ok(text.into_bytes())
 }
