@@ -1,0 +1,4 @@
+pub mod TurnLemmas
+pub mod FillLemmas
+pub mod DidLemmas
+pub mod StateLemmas
