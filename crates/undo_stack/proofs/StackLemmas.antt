@@ -11,7 +11,7 @@ use Rattle.pieces.specs.Splitting.{IsHint}
 use Rattle.pieces.proofs.SplittingLemmas.{hint-front}
 use Rattle.pieces.proofs.AddressLemmas.{length-addresses}
 use Rattle.undo_stack.specs.Layered.{IsPieced, newest_pieces, layers_undone, layers_redone, layers_kept, layers_added}
-use Rattle.undo_stack.specs.Ranges.{range, kept, layers_at, Laid, seams_in, IsMeasured, AreRanges}
+use Rattle.undo_stack.specs.Ranges.{range, layer_of, layers_at, Laid, seams_in, IsMeasured, AreRanges}
 use Rattle.undo_stack.specs.declared.stack.Mark.{Mark}
 
 contents-old : (xs : List ℕ) → contents (old_cells xs) ≡ xs
@@ -43,17 +43,18 @@ none : Mark
 none = record { start = 0; count = 0; length = 0; cycle = 0; end = 0; seams = 0 }
 
 layers-more : (ps : List Piece) (ms : List Mark) (k : ℕ) → k < length ms →
-    reverse (map (kept ps) (take (suc k) ms)) ≡ kept ps (get_or ms k none)
-    ∷ reverse (map (kept ps) (take k ms))
+    reverse (map (layer_of ps) (take (suc k) ms)) ≡ layer_of ps (get_or ms k none)
+    ∷ reverse (map (layer_of ps) (take k ms))
 layers-more ps ms k lt =
     rw (
       take-more k ms none lt,
-      append-mapped (kept ps) (take k ms) (get_or ms k none ∷ []),
-      reverse-append (map (kept ps) (take k ms)) (kept ps (get_or ms k none) ∷ []),
+      append-mapped (layer_of ps) (take k ms) (get_or ms k none ∷ []),
+      reverse-append (map (layer_of ps) (take k ms)) (layer_of ps (get_or ms k none) ∷ []),
     ) refl
 
 redo-more : (ps : List Piece) (ms : List Mark) (k : ℕ) → k < length ms →
-    map (kept ps) (drop k ms) ≡ kept ps (get_or ms k none) ∷ map (kept ps) (drop (suc k) ms)
+    map (layer_of ps) (drop k ms)
+        ≡ layer_of ps (get_or ms k none) ∷ map (layer_of ps) (drop (suc k) ms)
 redo-more ps ms k lt = rw (drop-at k ms none lt) refl
 
 -- one layer fewer is an undo
@@ -67,10 +68,11 @@ pub redone-at : (ps : List Piece) (ms : List Mark) (n k : ℕ) → n ≡ suc k �
 redone-at ps ms n k e lt = rw (e, layers-more ps ms k lt, redo-more ps ms k lt) refl
 
 -- seams
-total-kept : (ps : List Piece) (ms : List Mark) → total_seams (map (kept ps) ms) ≡ seams_in ms
-total-kept ps [] = refl
-total-kept ps (m ∷ ms) = let h = total-kept ps ms in
-    let s = sum_by-cons seams_of (kept ps m) (map (kept ps) ms) in omega (arith, h, s)
+total-layer_of : (ps : List Piece) (ms : List Mark) →
+    total_seams (map (layer_of ps) ms) ≡ seams_in ms
+total-layer_of ps [] = refl
+total-layer_of ps (m ∷ ms) = let h = total-layer_of ps ms in
+    let s = sum_by-cons seams_of (layer_of ps m) (map (layer_of ps) ms) in omega (arith, h, s)
 
 total-append : (xs ys : List (Layer ℕ)) → total_seams (xs ++ ys) ≡ total_seams xs + total_seams ys
 total-append [] ys = omega arith
@@ -94,12 +96,13 @@ seams-parts (suc n) (m ∷ ms) = let h = seams-parts n ms in omega (arith, h)
 
 -- the seams of layers and redo layers are those of all marks
 pub total-stack : (ps : List Piece) (ms : List Mark) (n : ℕ) →
-    total_seams (reverse (map (kept ps) (take n ms))) + total_seams (map (kept ps) (drop n ms))
+    total_seams (reverse (map (layer_of ps) (take n ms))) + total_seams
+        (map (layer_of ps) (drop n ms))
     ≡ seams_in ms
 total-stack ps ms n =
-    let a = total-reverse (map (kept ps) (take n ms)) in
-    let b = total-kept ps (take n ms) in
-    let c = total-kept ps (drop n ms) in
+    let a = total-reverse (map (layer_of ps) (take n ms)) in
+    let b = total-layer_of ps (take n ms) in
+    let c = total-layer_of ps (drop n ms) in
     let d = seams-parts n ms in
     omega (arith, a, b, c, d)
 
@@ -174,15 +177,17 @@ range-cut (suc s) c zero ps le = grind arith
 range-cut (suc s) c (suc b) [] le = refl
 range-cut (suc s) c (suc b) (p ∷ ps) le = range-cut s c b ps (omega (arith, le))
 
-kept-more : (ps qs : List Piece) (ms : List Mark) → Inside (length ps) ms →
-    map (kept (ps ++ qs)) ms ≡ map (kept ps) ms
-kept-more ps qs [] i = refl
-kept-more ps qs (m ∷ ms) i = rw (range-more m.start m.count ps qs i.0, kept-more ps qs ms i.1) refl
+layer_of-more : (ps qs : List Piece) (ms : List Mark) → Inside (length ps) ms →
+    map (layer_of (ps ++ qs)) ms ≡ map (layer_of ps) ms
+layer_of-more ps qs [] i = refl
+layer_of-more ps qs (m ∷ ms) i =
+    rw (range-more m.start m.count ps qs i.0, layer_of-more ps qs ms i.1) refl
 
-kept-cut : (b : ℕ) (ps : List Piece) (ms : List Mark) → Inside b ms →
-    map (kept (take b ps)) ms ≡ map (kept ps) ms
-kept-cut b ps [] i = refl
-kept-cut b ps (m ∷ ms) i = rw (range-cut m.start m.count b ps i.0, kept-cut b ps ms i.1) refl
+layer_of-cut : (b : ℕ) (ps : List Piece) (ms : List Mark) → Inside b ms →
+    map (layer_of (take b ps)) ms ≡ map (layer_of ps) ms
+layer_of-cut b ps [] i = refl
+layer_of-cut b ps (m ∷ ms) i =
+    rw (range-cut m.start m.count b ps i.0, layer_of-cut b ps ms i.1) refl
 
 ranges-more : (ps qs : List Piece) (ms : List Mark) → Inside (length ps) ms →
     map (range (ps ++ qs)) ms ≡ map (range ps) ms
@@ -207,10 +212,10 @@ drop-take-none (suc n) (x ∷ xs) = drop-take-none n xs
 
 -- so many marks are so many layers
 pub length-layers : (ps : List Piece) (ms : List Mark) (n : ℕ) → n ≤ length ms →
-    length (reverse (map (kept ps) (take n ms))) ≡ n
+    length (reverse (map (layer_of ps) (take n ms))) ≡ n
 length-layers ps ms n le =
-    let a = length-reverse (map (kept ps) (take n ms)) in
-    let b = length-map (take n ms) (kept ps) in
+    let a = length-reverse (map (layer_of ps) (take n ms)) in
+    let b = length-map (take n ms) (layer_of ps) in
     let c = length-take-le n ms le in
     omega (arith, a, b, c)
 
@@ -221,32 +226,32 @@ take-mapped f (suc n) [] = refl
 take-mapped f (suc n) (x ∷ xs) = ap (λ t. f x ∷ t) (take-mapped f n xs)
 
 -- without redo layers
-kept-at : (ps : List Piece) (ms : List Mark) (k from to : ℕ) (d : Mark) → k < length ms →
+layer_of-at : (ps : List Piece) (ms : List Mark) (k from to : ℕ) (d : Mark) → k < length ms →
     Laid from to ms → layers_at (take ((get_or ms k d).start + (get_or ms k d).count) ps)
     (take (suc k) ms) (suc k) ≡ layers_kept (layers_at ps ms (suc k))
-kept-at ps ms k from to d lt l =
+layer_of-at ps ms k from to d lt l =
     let i : Inside ((get_or ms k d).start + (get_or ms k d).count) (take (suc k) ms) =
     laid-inside from ((get_or ms k d).start + (get_or ms k d).count) (take (suc k) ms)
     (laid-take from to k ms d lt l) in
     rw (
       take-take (suc k) ms,
       drop-take-none (suc k) ms,
-      kept-cut ((get_or ms k d).start + (get_or ms k d).count) ps (take (suc k) ms) i,
+      layer_of-cut ((get_or ms k d).start + (get_or ms k d).count) ps (take (suc k) ms) i,
       ranges-cut ((get_or ms k d).start + (get_or ms k d).count) ps (take (suc k) ms) i,
       length-layers ps ms (suc k) (omega (arith, lt)),
       take-mapped (range ps) (suc k) ms,
     ) refl
 
 -- the redo layers dropped
-pub kept-all : (ps ps' : List Piece) (ms ms' : List Mark) (n b from to : ℕ) (m : Mark) → n ≢ 0 →
+pub dropped-all : (ps ps' : List Piece) (ms ms' : List Mark) (n b from to : ℕ) (m : Mark) → n ≢ 0 →
     n ≤ length ms → m ≡ get_or ms (n - 1) m → Laid from to ms → b ≡ m.start + m.count →
     ps' ≡ take b ps → ms' ≡ take n ms → layers_at ps' ms' n ≡ layers_kept (layers_at ps ms n)
-kept-all ps ps' ms ms' zero b from to m ne le em l eb ep es = absurd (ne refl)
-kept-all ps ps' ms ms' (suc k) b from to m ne le em l eb ep es =
+dropped-all ps ps' ms ms' zero b from to m ne le em l eb ep es = absurd (ne refl)
+dropped-all ps ps' ms ms' (suc k) b from to m ne le em l eb ep es =
     let z : suc k - 1 ≡ k = omega arith in
     let g : m ≡ get_or ms k m = rw z at em in
     let c : b ≡ (get_or ms k m).start + (get_or ms k m).count = rw (sym g) eb in
-    rw (ep, es, c) (kept-at ps ms k from to m (omega (arith, le)) l)
+    rw (ep, es, c) (layer_of-at ps ms k from to m (omega (arith, le)) l)
 
 -- fewer marks have fewer seams
 pub seams-cut : (n : ℕ) (ms : List Mark) → seams_in (take n ms) ≤ seams_in ms
@@ -333,9 +338,9 @@ drop-none zero (x ∷ xs) e = let f : length (x ∷ xs) ≡ 0 = ap (λ t. length
 drop-none (suc n) [] e = omega arith
 drop-none (suc n) (x ∷ xs) e = let h = drop-none n xs e in omega (arith, h)
 
-map-none : (ps : List Piece) (ms : List Mark) → map (kept ps) ms ≡ [] → ms ≡ []
+map-none : (ps : List Piece) (ms : List Mark) → map (layer_of ps) ms ≡ [] → ms ≡ []
 map-none ps [] e = refl
-map-none ps (m ∷ ms) e = let f : length (map (kept ps) (m ∷ ms)) ≡ 0 = ap (λ t. length t) e in
+map-none ps (m ∷ ms) e = let f : length (map (layer_of ps) (m ∷ ms)) ≡ 0 = ap (λ t. length t) e in
     grind (arith, f)
 
 take-all : {A : Type 0} (n : ℕ) (xs : List A) → length xs ≤ n → take n xs ≡ xs
@@ -355,18 +360,19 @@ range-last ps qs = rw (drop-append_seam ps qs) (take-all (length qs) qs (omega a
 
 -- one layer more fits
 pub room-added : (ps : List Piece) (ms : List Mark) (n seams : ℕ) (redo : List (Layer ℕ)) →
-    AreRanges ps ms n → redo ≡ map (kept ps) (drop n ms) → redo ≡ [] →
-    total_seams (reverse (map (kept ps) (take n ms))) + seams ≤ max_seams →
+    AreRanges ps ms n → redo ≡ map (layer_of ps) (drop n ms) → redo ≡ [] →
+    total_seams (reverse (map (layer_of ps) (take n ms))) + seams ≤ max_seams →
     (length ps + seams ≤ max_seams) × (seams_in ms + seams ≤ max_seams)
 room-added ps ms n seams redo h er en le =
     let t = total-stack ps ms n in
-    let z : total_seams (map (kept ps) (drop n ms)) ≡ 0 = rw (sym er, en) refl in
+    let z : total_seams (map (layer_of ps) (drop n ms)) ≡ 0 = rw (sym er, en) refl in
     let w = laid-within 0 (length ps) ms h.laid in
     (omega (arith, t, z, w, le), omega (arith, t, z, le))
 
 -- one layer more on top
 pub added-at : (ps ps' qs : List Piece) (ms ms' : List Mark) (n : ℕ) (m : Mark) →
-    AreRanges ps ms n → map (kept ps) (drop n ms) ≡ [] → m.start ≡ length ps → m.count ≡ length qs →
+    AreRanges ps ms n → map (layer_of ps) (drop n ms) ≡ [] → m.start ≡ length ps →
+        m.count ≡ length qs →
     ps' ≡ ps ++ qs → ms' ≡ ms ++ m ∷ [] →
     layers_at ps' ms' (n + 1) ≡ layers_added qs m.cycle m.end m.seams (layers_at ps ms n)
 added-at ps ps' qs ms ms' n m h none es ec ep em =
@@ -381,17 +387,18 @@ added-at ps ps' qs ms ms' n m h none es ec ep em =
       take-all (n + 1) (ms ++ m ∷ []) more,
       drop-all (n + 1) (ms ++ m ∷ []) more,
       take-all n ms len,
-      append-mapped (kept (ps ++ qs)) ms (m ∷ []),
+      append-mapped (layer_of (ps ++ qs)) ms (m ∷ []),
       append-mapped (range (ps ++ qs)) ms (m ∷ []),
-      kept-more ps qs ms i,
+      layer_of-more ps qs ms i,
       ranges-more ps qs ms i,
-      reverse-append (map (kept ps) ms) (kept (ps ++ qs) m ∷ []),
+      reverse-append (map (layer_of ps) ms) (layer_of (ps ++ qs) m ∷ []),
       r,
     ) refl
 
 -- what always holds, with one layer more
 pub holds-added : (ps ps' qs : List Piece) (ms ms' : List Mark) (n : ℕ) (m : Mark) →
-    AreRanges ps ms n → map (kept ps) (drop n ms) ≡ [] → m.start ≡ length ps → m.count ≡ length qs →
+    AreRanges ps ms n → map (layer_of ps) (drop n ms) ≡ [] → m.start ≡ length ps →
+        m.count ≡ length qs →
     m.count ≤ m.seams → seams_in ms + m.seams ≤ max_seams → n < max_layers → Solid qs →
     m.length ≡ length (addresses qs) → length (addresses qs) ≤ max_list_frames → ps' ≡ ps ++ qs →
     ms' ≡ ms ++ m ∷ [] → AreRanges ps' ms' (n + 1)
@@ -414,29 +421,29 @@ holds-added ps ps' qs ms ms' n m h none es ec few fit count sq el short ep em =
 
 -- the current layer
 current-of : (ps : List Piece) (ms : List Mark) (k : ℕ) (d : Mark) → k < length ms →
-    current_list (reverse (map (kept ps) (take (suc k) ms))) ≡ addresses
+    current_list (reverse (map (layer_of ps) (take (suc k) ms))) ≡ addresses
     (take (get_or ms k d).count (drop (get_or ms k d).start ps))
 current-of ps ms k d lt =
     rw (
       take-more k ms d lt,
-      append-mapped (kept ps) (take k ms) (get_or ms k d ∷ []),
-      reverse-append (map (kept ps) (take k ms)) (kept ps (get_or ms k d) ∷ []),
+      append-mapped (layer_of ps) (take k ms) (get_or ms k d ∷ []),
+      reverse-append (map (layer_of ps) (take k ms)) (layer_of ps (get_or ms k d) ∷ []),
     )
     (contents-old (addresses (take (get_or ms k d).count (drop (get_or ms k d).start ps))))
 
 current-seams-of : (ps : List Piece) (ms : List Mark) (k : ℕ) (d : Mark) → k < length ms →
-    current_seams (reverse (map (kept ps) (take (suc k) ms))) ≡ (get_or ms k d).seams
+    current_seams (reverse (map (layer_of ps) (take (suc k) ms))) ≡ (get_or ms k d).seams
 current-seams-of ps ms k d lt =
     rw (
       take-more k ms d lt,
-      append-mapped (kept ps) (take k ms) (get_or ms k d ∷ []),
-      reverse-append (map (kept ps) (take k ms)) (kept ps (get_or ms k d) ∷ []),
+      append-mapped (layer_of ps) (take k ms) (get_or ms k d ∷ []),
+      reverse-append (map (layer_of ps) (take k ms)) (layer_of ps (get_or ms k d) ∷ []),
     ) refl
 
 -- the pieces of the current layer stand for its list
 pub current-range : (ps : List Piece) (ms : List Mark) (n c : ℕ) (m : Mark) → n ≢ 0 →
     n ≤ length ms → m ≡ get_or ms (n - 1) m → c ≡ m.count →
-    addresses (take c (drop m.start ps)) ≡ current_list (reverse (map (kept ps) (take n ms)))
+    addresses (take c (drop m.start ps)) ≡ current_list (reverse (map (layer_of ps) (take n ms)))
 current-range ps ms zero c m ne le em ec = absurd (ne refl)
 current-range ps ms (suc k) c m ne le em ec =
     let z : suc k - 1 ≡ k = omega arith in
@@ -451,7 +458,7 @@ length-take-most (suc k) (x ∷ xs) = let h = length-take-most k xs in omega (ar
 -- they are at most as many as its seams
 pub current-few : (ps : List Piece) (ms : List Mark) (n c : ℕ) (m : Mark) → n ≢ 0 →
     AreRanges ps ms n → m ≡ get_or ms (n - 1) m → c ≡ m.count →
-    length (take c (drop m.start ps)) ≤ current_seams (reverse (map (kept ps) (take n ms)))
+    length (take c (drop m.start ps)) ≤ current_seams (reverse (map (layer_of ps) (take n ms)))
 current-few ps ms zero c m ne h em ec = absurd (ne refl)
 current-few ps ms (suc k) c m ne h em ec =
     let z : suc k - 1 ≡ k = omega arith in
@@ -459,7 +466,7 @@ current-few ps ms (suc k) c m ne h em ec =
     let g : m ≡ get_or ms k m = rw z at em in
     let f : m.count ≤ m.seams = rw (sym g) at (laid-few 0 (length ps) k ms m lt h.laid) in
     let t = length-take-most c (drop m.start ps) in
-    let e : current_seams (reverse (map (kept ps) (take (suc k) ms))) ≡ m.seams =
+    let e : current_seams (reverse (map (layer_of ps) (take (suc k) ms))) ≡ m.seams =
     rw (sym g) at (current-seams-of ps ms k m lt) in
     omega (arith, f, t, e, ec)
 
@@ -477,7 +484,7 @@ layer-value ps ms k c m lt e ec = rw (get-mapped ps ms k m lt e, ec) refl
 -- they are the newest
 pub current-value : (ps : List Piece) (ms : List Mark) (n c : ℕ) (m : Mark) → n ≢ 0 →
     n ≤ length ms → m ≡ get_or ms (n - 1) m → c ≡ m.count → take c (drop m.start ps) ≡ newest_pieces
-    (reverse (map (kept ps) (take n ms))) (map (range ps) ms)
+    (reverse (map (layer_of ps) (take n ms))) (map (range ps) ms)
 current-value ps ms zero c m ne le em ec = absurd (ne refl)
 current-value ps ms (suc k) c m ne le em ec =
     let z : suc k - 1 ≡ k = omega arith in
@@ -495,7 +502,7 @@ measured-at ps (x ∷ ms) (suc k) m lt e a = measured-at ps ms k m (omega (arith
 -- the current layer's length is its list's, and within bounds
 pub current-measured : (ps : List Piece) (ms : List Mark) (n : ℕ) (m : Mark) → n ≢ 0 →
     AreRanges ps ms n → m ≡ get_or ms (n - 1) m →
-    (m.length ≡ length (current_list (reverse (map (kept ps) (take n ms)))))
+    (m.length ≡ length (current_list (reverse (map (layer_of ps) (take n ms)))))
     × (m.length ≤ max_list_frames)
 current-measured ps ms zero m ne h em = absurd (ne refl)
 current-measured ps ms (suc k) m ne h em =
@@ -508,7 +515,7 @@ current-measured ps ms (suc k) m ne h em =
 -- the length alone
 pub current-length : (ps : List Piece) (ms : List Mark) (n : ℕ) (m : Mark) → n ≢ 0 →
     AreRanges ps ms n → m ≡ get_or ms (n - 1) m →
-    m.length ≡ length (current_list (reverse (map (kept ps) (take n ms))))
+    m.length ≡ length (current_list (reverse (map (layer_of ps) (take n ms))))
 current-length ps ms n m ne h em = (current-measured ps ms n m ne h em).0
 
 -- the bound alone
@@ -518,11 +525,11 @@ current-short ps ms n m ne h em = (current-measured ps ms n m ne h em).1
 
 -- how many layers there are
 pub count-pieces : (ps : List Piece) (ms : List Mark) (n : ℕ) → n ≤ length ms →
-    length (map (range ps) ms) ≡ length (reverse (map (kept ps) (take n ms)))
-    + length (map (kept ps) (drop n ms))
+    length (map (range ps) ms) ≡ length (reverse (map (layer_of ps) (take n ms)))
+    + length (map (layer_of ps) (drop n ms))
 count-pieces ps ms n le =
     let a = length-layers ps ms n le in
-    let b = length-map (drop n ms) (kept ps) in
+    let b = length-map (drop n ms) (layer_of ps) in
     let c = length-map ms (range ps) in
     let d = length-drop n ms in
     omega (arith, a, b, c, d, le)
@@ -550,7 +557,8 @@ layer-within ps ms n k m h lt e = rw e (laid-at 0 (length ps) k ms m lt h.laid)
 
 -- where nothing is undone there is a mark for each layer
 pub marks-room : (ps : List Piece) (ms : List Mark) (n : ℕ) → n ≤ length ms →
-    map (kept ps) (drop n ms) ≡ [] → length (reverse (map (kept ps) (take n ms))) < max_layers →
+    map (layer_of ps) (drop n ms) ≡ [] →
+        length (reverse (map (layer_of ps) (take n ms))) < max_layers →
     length ms < max_layers
 marks-room ps ms n le e lt =
     let a = length-layers ps ms n le in
@@ -562,7 +570,7 @@ pub hint-front-at : (ps : List Piece) (i begin : ℕ) → i ≡ 0 → begin ≡ 
 hint-front-at ps i begin e f = rw (e, f) (hint-front ps)
 
 -- each layer's list is that of its pieces, which are at most its seams
-pieced-on : (ps : List Piece) (m : Mark) → Solid ps → m.count ≤ m.seams → IsPieced (kept ps m)
+pieced-on : (ps : List Piece) (m : Mark) → Solid ps → m.count ≤ m.seams → IsPieced (layer_of ps m)
 pieced-on ps m s le = record {
   pieces = range ps m;
   solid = solid-range m.start m.count ps s;
@@ -578,7 +586,7 @@ laid-all-few from to [] l = tt
 laid-all-few from to (m ∷ ms) l = (l.1.0, laid-all-few (from + m.count) to ms l.1.1)
 
 pieced-all : (ps : List Piece) (ms : List Mark) → Solid ps → AreFew ms →
-    AllByRecursion IsPieced (map (kept ps) ms)
+    AllByRecursion IsPieced (map (layer_of ps) ms)
 pieced-all ps [] s f = tt
 pieced-all ps (m ∷ ms) s f = (pieced-on ps m s f.0, pieced-all ps ms s f.1)
 
@@ -597,15 +605,15 @@ all-reverse P (x ∷ xs) a =
 
 -- each layer is made of its pieces
 pub pieced-layers : (ps : List Piece) (ms : List Mark) (n : ℕ) → AreRanges ps ms n →
-    AllByRecursion IsPieced (reverse (map (kept ps) (take n ms)))
+    AllByRecursion IsPieced (reverse (map (layer_of ps) (take n ms)))
 pieced-layers ps ms n h =
-    all-reverse IsPieced (map (kept ps) (take n ms))
+    all-reverse IsPieced (map (layer_of ps) (take n ms))
     (pieced-all ps (take n ms) h.solid
     (all-take (λ m. m.count ≤ m.seams) n ms (laid-all-few 0 (length ps) ms h.laid)))
 
 -- and so is each redo layer
 pub pieced-redo : (ps : List Piece) (ms : List Mark) (n : ℕ) → AreRanges ps ms n →
-    AllByRecursion IsPieced (map (kept ps) (drop n ms))
+    AllByRecursion IsPieced (map (layer_of ps) (drop n ms))
 pieced-redo ps ms n h = pieced-all ps (drop n ms) h.solid
     (all-drop (λ m. m.count ≤ m.seams) n ms (laid-all-few 0 (length ps) ms h.laid))
 
@@ -613,7 +621,7 @@ pub ruleset moves = (undone-at, redone-at, hint-front)
 
 pub ruleset totals = (total-stack, count-pieces, pieced-layers, pieced-redo)
 
-pub ruleset cuts = (kept-all, holds-cut-at, hint-front-at)
+pub ruleset cuts = (dropped-all, holds-cut-at, hint-front-at)
 
 pub ruleset adds = (room-added, added-at, holds-added, hint-front, short-total)
 

@@ -16,15 +16,15 @@ abbrev pub range : List Piece → Mark → List Piece
 range ps m = take m.count (drop m.start ps)
 
 -- the layer of a range
-abbrev pub kept : List Piece → Mark → Layer ℕ
-kept ps m = closed_of (addresses (range ps m)) m.cycle m.end m.seams
+abbrev pub layer_of : List Piece → Mark → Layer ℕ
+layer_of ps m = closed_of (addresses (range ps m)) m.cycle m.end m.seams
 
 -- the layers of ranges, of which so many aren't undone
 abbrev pub layers_at : List Piece → List Mark → ℕ → LayersOf
 layers_at ps ms n =
     record {
-      layers = reverse (map (kept ps) (take n ms));
-      redo = map (kept ps) (drop n ms);
+      layers = reverse (map (layer_of ps) (take n ms));
+      redo = map (layer_of ps) (drop n ms);
       pieces = map (range ps) ms;
     }
 
@@ -42,7 +42,7 @@ abbrev pub seams_in : List Mark → ℕ
 seams_in [] = 0
 seams_in (m ∷ ms) = m.seams + seams_in ms
 
--- the length that is kept of each layer is that of its list, and is within the limit
+-- the length that is layer_of of each layer is that of its list, and is within the limit
 abbrev pub IsMeasured : List Piece → Mark → Type 0
 IsMeasured ps m = (m.length ≡ length (addresses (range ps m))) × (m.length ≤ max_list_frames)
 

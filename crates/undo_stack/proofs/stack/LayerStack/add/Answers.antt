@@ -2,48 +2,48 @@ use Rattle.std.proofs.Common.{rules, arith, ◌≡◌, ◌≤◌, ◌+◌, ◌<�
 use Rattle.std.proofs.lemmas.Grind.{common_steps}
 use Rattle.sl_base.specs.Limits.{max_layers, max_seams}
 use Rattle.looper_rules.specs.Layers.{total_seams}
-use Rattle.undo_stack.specs.Ranges.{kept}
+use Rattle.undo_stack.specs.Ranges.{layer_of}
 use Rattle.undo_stack.proofs.StackLemmas.{room-added, holds-added, marks-room, hint-front-at}
 use Rattle.pieces.proofs.AddressLemmas.{length-addresses}
 use Rattle.undo_stack.proofs.stack.LayerStack.add.Goals as goal
 
 pub push_all-requires : goal.push_all-requires
 push_all-requires c =
-    let en : map (kept c.self.inside.pieces.items)
+    let en : map (layer_of c.self.inside.pieces.items)
     (drop c.self.inside.layers c.self.inside.marks.items) ≡ [] =
     rw (sym c.self.view_is) at c.requires.redo in
     let le : total_seams
-    (reverse (map (kept c.self.inside.pieces.items)
+    (reverse (map (layer_of c.self.inside.pieces.items)
     (take c.self.inside.layers c.self.inside.marks.items))) + c.args.seams ≤ max_seams =
     rw (sym c.self.view_is) at c.requires.seams in
     let r = room-added c.self.inside.pieces.items c.self.inside.marks.items c.self.inside.layers
-    c.args.seams (map (kept c.self.inside.pieces.items)
+    c.args.seams (map (layer_of c.self.inside.pieces.items)
     (drop c.self.inside.layers c.self.inside.marks.items)) c.self.invariant.holds refl en le in
     let room = c.self.invariant.room in let few = c.requires.few in
     record { room = omega (arith, r.0, room, few) }
 
 pub overflow_cast-start : goal.overflow_cast-start
 overflow_cast-start c =
-    let en : map (kept c.self.inside.pieces.items)
+    let en : map (layer_of c.self.inside.pieces.items)
     (drop c.self.inside.layers c.self.inside.marks.items) ≡ [] =
     rw (sym c.self.view_is) at c.requires.redo in
     let le : total_seams
-    (reverse (map (kept c.self.inside.pieces.items)
+    (reverse (map (layer_of c.self.inside.pieces.items)
     (take c.self.inside.layers c.self.inside.marks.items))) + c.args.seams ≤ max_seams =
     rw (sym c.self.view_is) at c.requires.seams in
     let r = room-added c.self.inside.pieces.items c.self.inside.marks.items c.self.inside.layers
-    c.args.seams (map (kept c.self.inside.pieces.items)
+    c.args.seams (map (layer_of c.self.inside.pieces.items)
     (drop c.self.inside.layers c.self.inside.marks.items)) c.self.invariant.holds refl en le in
     let a : length c.self.inside.pieces.items ≤ max_seams = omega (arith, r.0) in
     grind (arith, common_steps, a, c.len-start.ensures)
 
 pub push_reserved-requires : goal.push_reserved-requires
 push_reserved-requires c =
-    let en : map (kept c.self.inside.pieces.items)
+    let en : map (layer_of c.self.inside.pieces.items)
     (drop c.self.inside.layers c.self.inside.marks.items) ≡ [] =
     rw (sym c.self.view_is) at c.requires.redo in
     let m : length (reverse
-    (map (kept c.self.inside.pieces.items)
+    (map (layer_of c.self.inside.pieces.items)
     (take c.self.inside.layers c.self.inside.marks.items))) < max_layers =
     rw (sym c.self.view_is) at c.requires.count in
     let k = marks-room c.self.inside.pieces.items c.self.inside.marks.items c.self.inside.layers
@@ -53,18 +53,18 @@ push_reserved-requires c =
 
 pub invariant_of-self : goal.invariant_of-self
 invariant_of-self c =
-    let en : map (kept c.self.inside.pieces.items)
+    let en : map (layer_of c.self.inside.pieces.items)
     (drop c.self.inside.layers c.self.inside.marks.items) ≡ [] =
     rw (sym c.self.view_is) at c.requires.redo in
     let le : total_seams
-    (reverse (map (kept c.self.inside.pieces.items)
+    (reverse (map (layer_of c.self.inside.pieces.items)
     (take c.self.inside.layers c.self.inside.marks.items))) + c.args.seams ≤ max_seams =
     rw (sym c.self.view_is) at c.requires.seams in
     let r = room-added c.self.inside.pieces.items c.self.inside.marks.items c.self.inside.layers
-    c.args.seams (map (kept c.self.inside.pieces.items)
+    c.args.seams (map (layer_of c.self.inside.pieces.items)
     (drop c.self.inside.layers c.self.inside.marks.items)) c.self.invariant.holds refl en le in
     let m : length (reverse
-    (map (kept c.self.inside.pieces.items)
+    (map (layer_of c.self.inside.pieces.items)
     (take c.self.inside.layers c.self.inside.marks.items))) < max_layers =
     rw (sym c.self.view_is) at c.requires.count in
     let w = c.self.invariant.holds.within in
