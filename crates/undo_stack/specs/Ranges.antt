@@ -42,7 +42,7 @@ abbrev pub seams_in : List Mark → ℕ
 seams_in [] = 0
 seams_in (m ∷ ms) = m.seams + seams_in ms
 
--- the length that is layer_of of each layer is that of its list, and is within the limit
+-- the length that is kept of each layer is that of its list, and is within the limit
 abbrev pub IsMeasured : List Piece → Mark → Type 0
 IsMeasured ps m = (m.length ≡ length (addresses (range ps m))) × (m.length ≤ max_list_frames)
 
