@@ -110,7 +110,46 @@ def lines(cases):
         yield 'bindings %d %s' % (v['loops'], v['hex']), told_bindings(v)
     for v in latest(read(os.path.join(folder, 'lookups.jsonl')), lambda v: (v['text'], v['loops'], v['hex'])):
         yield 'looked %d %s %s' % (v['loops'], v['text'].encode().hex(), v['hex']), told_commands(v)
+    for v in read(os.path.join(folder, 'accounts.jsonl')):
+        yield account_line(v), told_account(v)
     yield from peer_lines(os.path.join(cases, 'peers'))
+
+
+def account_line(vector):
+    """A sender's numbers and steps; `take:` is by the ring's other end."""
+    words = ['account', vector['sender'], str(vector['quota']), str(vector['capacity']), str(vector['loops'])]
+    if vector['sender'] == 'osc':
+        words += [str(number(vector['from'][0])), str(vector['from'][1])]
+    else:
+        words.append(vector['text'].encode().hex())
+    for step in vector['steps']:
+        words.append({'packet': lambda: step[1], 'byte': lambda: step[1] if isinstance(step[1], str) else '%02x' % step[1],
+                      'take': lambda: 'take:%d' % step[1], 'unsent': lambda: 'unsent'}[step[0]]())
+    return ' '.join(words)
+
+
+def told_decision(decision):
+    if decision[0] == 'Ping':
+        return 'Ping ' + place(decision[1])
+    return ':'.join(str(part) for part in decision)
+
+
+def told_account(vector):
+    account = vector['account']
+    told = ['account']
+    decisions = iter(vector['decisions'])
+    for step in vector['steps']:
+        if step[0] == 'unsent':
+            told.append('')
+        if step[0] in ('packet', 'byte'):
+            decided = next(decisions) or []
+            decided = [decided] if decided and isinstance(decided[0], str) else decided
+            told.append(''.join(' ' + told_decision(d) for d in decided))
+    text = ';'.join(told)
+    for command, to in account['accepted']:
+        text += '; accepted ' + command + (' to ' + place(to) if to else '')
+    counts = [account[key] for key in ('ring_full', 'session_full', 'ended', 'packet_faults')] + account['path_faults'] + [account['unsent']]
+    return text + '; counts ' + ' '.join(str(count) for count in counts) + '; last' + ''.join(' %d:%d' % tuple(r) for r in account['last'])
 
 
 def peer_lines(folder):

@@ -1,5 +1,6 @@
 //! Messages from outside: OSC packets, MIDI bytes, bindings.
 
+pub mod accounts;
 mod asked;
 mod bound;
 mod midi;
@@ -17,7 +18,7 @@ use std::alloc::Global;
 use std::io::{self, Write};
 
 /// The address of two words.
-fn addr_of(ip: &str, port: &str) -> Addr {
+pub fn addr_of(ip: &str, port: &str) -> Addr {
     Addr {
         ip: ip.parse().unwrap_or(0),
         port: port.parse().unwrap_or(0),

@@ -58,7 +58,8 @@ pub fn tell_command<W: Write>(out: &mut W, command: &Command) -> io::Result<()> 
     }
 }
 
-fn tell_return<W: Write>(out: &mut W, to: &ReturnTo) -> io::Result<()> {
+/// Tells where a reply goes.
+pub fn tell_return<W: Write>(out: &mut W, to: &ReturnTo) -> io::Result<()> {
     let ip = to.addr.ip;
     let port = to.addr.port;
     write!(out, " {ip} {port} ")?;
