@@ -5,4 +5,4 @@ pub mod WrongLemmas
 pub mod TextLemmas
 pub mod ReaderLemmas
 pub mod WriteLemmas
-pub mod QuotientLemmas
+pub mod SweepLemmas
