@@ -149,11 +149,27 @@ def streams():
     judge('the end of standard input', child.wait(timeout=5) == 0)
 
 
+def keepers(folder):
+    """Two programs write in one folder at the same time, and one that is killed leaves nothing in the way."""
+    children = [begun('keep', name, '200', cwd=folder) for name in ('first', 'the-second')]
+    found = [child.wait(timeout=60) for child in children]
+    judge('two programs in one folder', found == [0, 0], f'statuses {found}')
+    for _ in range(20):
+        child = begun('keep', 'killed', '1000000', cwd=folder)
+        time.sleep(0.01)
+        child.kill()
+        child.wait()
+    judge('a write behind programs that were killed', begun('keep', 'after', '1', cwd=folder).wait(timeout=10) == 0)
+    judge('nothing is left', set(os.listdir(folder)) <= {'first', 'the-second', 'killed', 'after'}, os.listdir(folder))
+
+
 packets()
 addresses()
 idle()
 with tempfile.TemporaryDirectory() as folder:
     files(folder)
+with tempfile.TemporaryDirectory() as folder:
+    keepers(folder)
 streams()
 print(f'{passed} passed, {failed} failed')
 sys.exit(failed > 0)

@@ -6,16 +6,19 @@
 //! ends link none      the same of the link to nowhere, which has no port
 //! ends file PATH      writes the bytes of a device, a FIFO or a file to standard output
 //! ends input          the same of standard input
+//! ends keep NAME TIMES  writes the file NAME of the working directory so often, and reads it again each time
 //! ```
 //!
 //! Each ends by itself: the link after 1000 turns, of which one waits for 20 ms at most, a file after 50 reads that gave nothing. The
-//! status is 0 at the end, 1 where nothing more came, 4 where a call failed, 5 where what came can't be written.
+//! status is 0 at the end, 1 where nothing more came, 4 where a call failed, 5 where what came can't be written, 6 where a file isn't what
+//! was written.
 #![tactic(auto)]
 
 use live_ports::{
     FileSource, Link, LinkAnswer, Listen, MAX_DATAGRAM, Source, SourceAnswer, StdSource, UdpLink,
 };
-use sl_ports::{Sink, SinkAnswer, StdSink};
+use sl_base::Name;
+use sl_ports::{DirKeeper, FileAnswer, KeepAnswer, Keeper, Sink, SinkAnswer, StdSink};
 use std::fs::File;
 use std::process::ExitCode;
 use std::time::Duration;
@@ -28,6 +31,8 @@ const NO_MORE: u8 = 1;
 const FAILED: u8 = 4;
 
 const UNWRITTEN: u8 = 5;
+
+const OTHER: u8 = 6;
 
 fn wait() -> Duration {
     Duration::from_millis(20)
@@ -90,13 +95,50 @@ fn copy<S: Source>(rt: &HostRuntime, source: &mut S) -> u8 {
     NO_MORE
 }
 
+/// Writes a file that has its name in it, and reads it again.
+fn kept(rt: &HostRuntime, keeper: &mut DirKeeper<&HostRuntime>, name: &Name) -> io::Result<u8> {
+    let mut bytes: Vec<u8> = Vec::new(rt.alloc());
+    for _ in 0..5000u32 {
+        bytes.extend_from_slice(name.as_bytes())?;
+    }
+    if keeper.write_file(rt.alloc(), name, bytes.as_slice()) != KeepAnswer::Done {
+        return Ok(FAILED);
+    }
+    match keeper.read_file(rt.alloc(), name) {
+        FileAnswer::Bytes(read) if read.as_slice() == bytes.as_slice() => Ok(END),
+        FileAnswer::Bytes(_) => Ok(OTHER),
+        FileAnswer::Missing | FileAnswer::Failed | FileAnswer::Memory => Ok(FAILED),
+    }
+}
+
+fn keep(rt: &HostRuntime, name: &str, times: u32) -> io::Result<u8> {
+    let Some(name) = Name::read(name.as_bytes()) else {
+        return Ok(FAILED);
+    };
+    let mut keeper = DirKeeper::new(rt);
+    for _ in 0..times {
+        let status = kept(rt, &mut keeper, &name)?;
+        if status != END {
+            return Ok(status);
+        }
+    }
+    Ok(END)
+}
+
 fn status(rt: &HostRuntime, words: &[String]) -> io::Result<u8> {
     match words {
         [end, kind] if end.as_str() == "link" => link(rt, kind.as_str()),
         [end, path] if end.as_str() == "file" => {
-            let mut file: FileSource<File> =
-                FileSource::open(rt.alloc(), rt, path.as_str(), wait());
+            let mut file: FileSource<File> = FileSource::open(
+                rt.alloc(),
+                rt,
+                path.as_str(),
+                wait(),
+            );
             Ok(copy(rt, &mut file))
+        }
+        [end, name, times] if end.as_str() == "keep" => {
+            keep(rt, name.as_str(), times.parse().unwrap_or(0))
         }
         [end] if end.as_str() == "input" => Ok(copy(rt, &mut StdSource::new(rt.stdin()))),
         _ => Ok(END),
