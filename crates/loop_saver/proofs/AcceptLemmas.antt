@@ -87,12 +87,6 @@ pub one_failed :
 one_failed k f old new same rose =
     (record { written = []; next = f; rest = []; whole = refl; files = same }, rose)
 
--- where one file is left, the first are written
-pub stops_first : (fs : List SavedFile) (old new : Option Files) → StopsWriting fs old new →
-    WritesFirst fs old new
-stops_first fs old new w =
-    record { written = w.written; rest = w.next ∷ w.rest; whole = w.whole; files = w.files }
-
 -- some files were written, and then others
 pub writes_more :
     {P : Type 0} (k : Keeper P) (fs gs : List SavedFile) (old mid new : P) (now : Ending) →

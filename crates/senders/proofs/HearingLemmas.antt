@@ -17,17 +17,6 @@ use Rattle.senders.specs.Tallies.{TallyOf, with_ended, with_session_full, with_r
 use Rattle.senders.specs.Hearing.{Input, plays, pings, faulty, wrong, Heard, input_in, decision_on, tally_after, tally_behind, decisions_in, AreFull, Hears, is_used_up, command_decision, after_command}
 use Rattle.senders.specs.Senders.{AreInStep}
 
--- nothing is heard
-pub hears_none : (capacity : ℕ) (t : TallyOf) → Hears capacity [] t t []
-hears_none capacity t =
-    record {
-      heard = [];
-      inputs_are = refl;
-      decided_is = refl;
-      tally_is = refl;
-      fulls = tt;
-    }
-
 no_both : (b : Bool) → b ≡ false → b ≡ true → ⊥
 no_both b p q = (cc)
 
@@ -130,42 +119,6 @@ hears_accepted capacity c a t t' n quit used after number =
     (no_full capacity (length t.accepted))
 
 -- the account and the ring stay in step
-
-pub in_step_ended : (t t' : TallyOf) (r : PutEnd Command) → t' ≡ with_ended t → AreInStep t r →
-    AreInStep t' r
-in_step_ended t t' r is s =
-    subst (λ (u : TallyOf). AreInStep u r) (sym is)
-    (record { sent = s.sent; fulls = s.fulls; room = s.room })
-
-pub in_step_used_up : (t t' : TallyOf) (r : PutEnd Command) → t' ≡ with_session_full t →
-    AreInStep t r → AreInStep t' r
-in_step_used_up t t' r is s =
-    subst (λ (u : TallyOf). AreInStep u r) (sym is)
-    (record { sent = s.sent; fulls = s.fulls; room = s.room })
-
-pub in_step_full : (t t' : TallyOf) (r r' : PutEnd Command) → t' ≡ with_ring_full t →
-    r'.sent ≡ r.sent → r'.fulls ≡ raised r.fulls → SamePutRing r r' → AreInStep t r →
-    AreInStep t' r'
-in_step_full t t' r r' is sent counted same s =
-    subst (λ (u : TallyOf). AreInStep u r') (sym is)
-    (record {
-      sent = sent ∙ s.sent;
-      fulls = ap raised s.fulls ∙ sym counted;
-      room = subst (λ n. t.quota ≤ n) (sym same.limit) s.room;
-    })
-
-pub in_step_accepted : (t t' : TallyOf) (r r' : PutEnd Command) (c : Command)
-    (a : Option ReturnTo) → t' ≡ with_accepted (accepted c a) t →
-    r'.sent ≡ r.sent ++ c ∷ [] → r'.fulls ≡ r.fulls → SamePutRing r r' → AreInStep t r →
-    AreInStep t' r'
-in_step_accepted t t' r r' c a is sent fulls same s =
-    subst (λ (u : TallyOf). AreInStep u r') (sym is)
-    (record {
-      sent = sent ∙ ap (λ l. l ++ c ∷ []) s.sent
-          ∙ sym (map-append command_in t.accepted (accepted c a ∷ []));
-      fulls = s.fulls ∙ sym fulls;
-      room = subst (λ n. t.quota ≤ n) (sym same.limit) s.room;
-    })
 
 same_length : (xs : List Accepted) → length (commands_in xs) ≡ length xs
 same_length xs = simp length-map
@@ -289,11 +242,6 @@ grew_behind (h ∷ hs) t =
     let u : TallyOf = tally_after h.full h.input t in
     grew_joined t.accepted u.accepted (tally_behind hs u).accepted (grew_on h.full h.input t)
     (grew_behind hs u)
-
-pub hears_grew : (capacity : ℕ) (inputs : List Input) (t t' : TallyOf) (ds : List Decision) →
-    Hears capacity inputs t t' ds → Grew t.accepted t'.accepted
-hears_grew capacity inputs t t' ds h =
-    subst (λ (u : TallyOf). Grew t.accepted u.accepted) (sym h.tally_is) (grew_behind h.heard t)
 
 -- the inputs may be written otherwise
 pub hears_as : (capacity : ℕ) (xs ys : List Input) (t t' : TallyOf) (ds : List Decision) →

@@ -19,12 +19,6 @@ pub packet_found : (loops : ℕ) (from : Addr) (bytes : List ℕ) (messages : Li
     packet_inputs loops from bytes ≡ map (message_input loops from) messages
 packet_found loops from bytes messages e = ap (inputs_in loops from) e
 
-pub packet_faulty : (loops : ℕ) (from : Addr) (bytes : List ℕ) (fault : PacketFault) →
-    Fails fault (packet_at bytes) → (fault.kind ≡ kinds.Memory → ⊥) →
-    packet_inputs loops from bytes ≡ faulty fault ∷ []
-packet_faulty loops from bytes fault (inl memory) not = elim (not memory) [ ]
-packet_faulty loops from bytes fault (inr e) not = ap (inputs_in loops from) e
-
 -- one more message is heard
 pub hears_next : (capacity loops : ℕ) (from : Addr) (messages : List Message) (place : ℕ)
     (message : Message) (t t' t'' : TallyOf) (ds ds' : List Decision) (d : Decision) →

@@ -80,19 +80,8 @@ pub span_more : (from a b : ℕ) (xs : List Sound) →
 span_more from a b xs = take-add a b (drop from xs)
     ∙ ap (λ ys. take a (drop from xs) ++ take b ys) (drop-drop a from xs)
 
-pub length-span_of : (from n : ℕ) (xs : List Sound) → from + n ≤ length xs →
-    length (span_of from n xs) ≡ n
-length-span_of from n xs within =
-    length-take-le n (drop from xs) (let rest = length-drop from xs in omega arith)
-
 -- the samples of a place lie within those of all
 pub within_all : (start count size from len : ℕ) → start + count * size ≤ len → from ≤ count →
     start + from * size ≤ len
 within_all start count size from len all before = let less : size * from ≤ size * count =
-    mul-le-mul_left size before in omega arith
-
--- as do those of a span
-pub span_within : (start count size from n len : ℕ) → start + count * size ≤ len →
-    from + n ≤ count → n * size ≤ len - (start + from * size)
-span_within start count size from n len all before = let less : size * (from + n) ≤ size * count =
     mul-le-mul_left size before in omega arith
