@@ -66,7 +66,7 @@ stack-extended tape closed d d' (Some t) pin pinned ps more w lt o m ex em ed =
 -- the current list of closed layers is below the floor
 pub open-floor : (tape : ℕ) (closed : LayersOf) (d : FillOf) (top : Option Top) (pin : Option ℕ)
     (pinned xs : List ℕ) → IsTrue (is_some top) → Ordered closed.layers →
-        MayBeOpen tape closed d top pin pinned → xs ≡ current_list closed.layers → Below d.floor xs
+    MayBeOpen tape closed d top pin pinned → xs ≡ current_list closed.layers → Below d.floor xs
 open-floor tape closed d None pin pinned xs w o m e = grind (arith, w)
 open-floor tape closed d (Some t) pin pinned xs w o m e = rw e
     (list-below d.floor closed.layers (let x = m.end in let y = m.floor in omega (arith, x, y)) o)

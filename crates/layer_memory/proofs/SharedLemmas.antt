@@ -21,8 +21,13 @@ ordered-ends (l ∷ ls) o = (o.0, ordered-ends ls o.1.1)
 
 open-pieced : (t : Top) (d : FillOf) (closed : List (Layer ℕ)) → IsFill d →
     IsPieced (open_layer t d closed)
-open-pieced t d closed i = record { pieces = d.pieces; solid = i.solid; same =
-    rw (contents-marked d.floor d.cells) (sym i.cells); few = i.few }
+open-pieced t d closed i = record {
+  pieces = d.pieces;
+  solid = i.solid;
+  same =
+      rw (contents-marked d.floor d.cells) (sym i.cells);
+  few = i.few;
+}
 
 -- what layers that share a tape always keep
 pub shared : (tape : TapeOf) (closed : LayersOf) (d : FillOf) (top : Option Top) (pin : Option ℕ)

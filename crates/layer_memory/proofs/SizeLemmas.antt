@@ -32,7 +32,7 @@ closed-base (l ∷ ls) o = rw o.1.0.no_base refl
 -- the base of an open layer
 pub open-base : (t : Top) (over : Bool) (d : FillOf) (closed : List (Layer ℕ)) → t.over ≡ over →
     current_base_length (stacked (Some t) d closed)
-        ≡ (if over then length (current_list closed) else 0)
+    ≡ (if over then length (current_list closed) else 0)
 open-base t true d closed e = rw e refl
 open-base t false d closed e = rw e refl
 

@@ -181,7 +181,7 @@ pub held-span-in : (k tape n : ℕ) (closed : LayersOf) (d d' : FillOf) (top : O
     d' ≡ fill_written_span k place d → Holds n closed d' top pin pinned seams
 held-span-in k tape n closed d d' top pin pinned place seams w on h en ed =
     rw (en, ed)
-        (held-span k tape closed d top pin pinned place seams w (is-true (is_some d.streak) on)
+    (held-span k tape closed d top pin pinned place seams w (is-true (is_some d.streak) on)
     h)
 
 -- the stack with a row written
@@ -193,7 +193,7 @@ pub stack-span-in : (k : ℕ) (tape tape' : TapeOf) (closed : LayersOf) (d d' : 
     (held_by tape closed d top pin pinned).stack
 stack-span-in k tape tape' closed d d' top pin pinned place seams w on le h n e =
     stack-span k tape tape' closed d d' top pin pinned place seams w
-        (is-true (is_some d.streak) on) le
+    (is-true (is_some d.streak) on) le
     h n e
 
 -- new cells in a row
@@ -331,7 +331,7 @@ broken-same x xs place s e = rw e refl
 over-all : (xs : List Sound) (f g : ℕ → Sound) (n place a : ℕ) (s : Stack ℕ) → 1 ≤ length xs →
     StackBelow n s → AreAlone (length xs) place a s → AreMarked true (length xs) place s.layers →
     AreOverwritten n a xs g f →
-        stack_map g (streak_broken s) ≡ written_span xs place (stack_map f s)
+    stack_map g (streak_broken s) ≡ written_span xs place (stack_map f s)
 over-all [] f g n place a s some b al m o = absurd (omega (arith, some))
 over-all (x ∷ xs) f g n place a s some b al m o =
     let fresh : meets_fresh Forward place (stack_map f s) ≡ true =

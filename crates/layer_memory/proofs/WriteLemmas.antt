@@ -81,7 +81,7 @@ refuses h h' p p' how place eh ep m fit = record {
 -- over a fresh cell
 pub rewrites : (h h' : Held) (p p' : PoolOf) (how : How) (place a : ℕ) (x : Sound) →
     h'.stack ≡ streak_broken h.stack → h'.tape ≡ h.tape → h'.writing ≡ true →
-        overwrites how ≡ true →
+    overwrites how ≡ true →
     meets_fresh how place h.stack ≡ true → StackBelow h.tape.len h.stack → Alone place a h.stack →
     ((b : ℕ) → b < h.tape.len → b ≢ a → at h'.tape p' b ≡ at h.tape p b) → at h'.tape p' a ≡ x →
     Keeps h h' p p' → Writes how place x h h' p p'

@@ -123,13 +123,13 @@ new-length Append place next ps = let h = joined-length next ps in grind (arith,
 
 on-length : (how : How) (last place next : ℕ) (ps : List Piece) →
     IsPlace how place (length (addresses ps)) → IsBehind how last place →
-        IsStreakOn how last next ps →
+    IsStreakOn how last next ps →
     length (pieces_written how place next ps) ≤ length ps
 on-length Forward last place next ps pl b r =
     overwritten-length-continues place next ps (rw (sym b) at r)
 on-length Backward last place next ps pl b r =
     down-length-continues place next ps (let n = length-addresses ps in omega (arith, pl, n))
-        (rw b at r)
+    (rw b at r)
 on-length Insert last place next ps pl b r =
     inserted-length-continues place next ps (rw (sym b) at r)
 on-length Append last place next ps pl b r =
@@ -138,7 +138,7 @@ on-length Append last place next ps pl b r =
 -- a write adds pieces for as many seams as it counts
 pub written-length : (streak : Option LastWrite) (how : How) (place next : ℕ) (ps : List Piece) →
     IsPlace how place (length (addresses ps)) → Follows streak how place →
-        HasStreak streak next ps →
+    HasStreak streak next ps →
     length (pieces_written how place next ps) ≤ length ps + more_seams streak
 written-length None how place next ps pl f r = new-length how place next ps
 written-length (Some last) how place next ps pl f r =

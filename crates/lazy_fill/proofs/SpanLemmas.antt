@@ -32,7 +32,7 @@ fill-written-over f place last e i lt fo =
     let m : length f.cells ≡ length (addresses f.pieces) = ap length i.cells in
     let inside : place < total f.pieces = omega (arith, lt, n, m) in
     let few : f.seams + more_seams f.streak ≤ max_seams = let s = i.seams
-        in rw e (omega (arith, s)) in
+    in rw e (omega (arith, s)) in
     fill-written f Forward place i lt fo few i.short
     (overwritten-addresses place f.next f.pieces inside)
     (overwritten-continues place f.next f.pieces inside i.solid)
@@ -41,7 +41,7 @@ fill-written-over f place last e i lt fo =
 pub fill-span : (k : ℕ) (f : FillOf) (place : ℕ) (last : LastWrite) → f.streak ≡ Some last →
     IsFill f →
     place + k ≤ length f.cells → Follows f.streak Forward place →
-        IsFill (fill_written_span k place f)
+    IsFill (fill_written_span k place f)
 fill-span zero f place last e i le fo = i
 fill-span (suc k) f place last e i le fo =
     let len = set-length f.cells place f.next in
@@ -88,8 +88,14 @@ span-pieces (suc k) f place = span-pieces k (fill_written Forward place f) (plac
 fill-as : (g : FillOf) (cells : List ℕ) (floor next seams : ℕ) (streak : Option LastWrite)
     (pieces : List Piece) → cells ≡ g.cells → floor ≡ g.floor → next ≡ g.next → seams ≡ g.seams →
     streak ≡ g.streak → pieces ≡ g.pieces →
-    record { cells = cells; floor = floor; next = next; seams = seams; streak = streak;
-        pieces = pieces }
+    record {
+      cells = cells;
+      floor = floor;
+      next = next;
+      seams = seams;
+      streak = streak;
+      pieces = pieces;
+    }
     ≡ g
 fill-as g cells floor next seams streak pieces a b c d e f = rw (a, b, c, d, e, f) refl
 
@@ -160,7 +166,7 @@ going_on (Some last) k f place next streak pieces e on some i le fo en er ep = (
 -- writes in a row where a streak goes on, as one record
 pub span-written : (k : ℕ) (f : FillOf) (place next : ℕ) (streak : Option LastWrite)
     (pieces : List Piece) → IsTrue (is_some f.streak) → 1 ≤ k → IsFill f →
-        place + k ≤ length f.cells →
+    place + k ≤ length f.cells →
     Follows f.streak Forward place → next ≡ f.next + k →
     streak ≡ Some (record { place = place + k - 1; how = Forward }) →
     pieces ≡ overwritten_span k place f.next f.pieces →
@@ -179,7 +185,7 @@ span-written k f place next streak pieces on some i le fo en er ep =
 -- and what always holds of it
 pub span-holds : (k : ℕ) (f : FillOf) (place next : ℕ) (streak : Option LastWrite)
     (pieces : List Piece) → IsTrue (is_some f.streak) → 1 ≤ k → IsFill f →
-        place + k ≤ length f.cells →
+    place + k ≤ length f.cells →
     Follows f.streak Forward place → next ≡ f.next + k →
     streak ≡ Some (record { place = place + k - 1; how = Forward }) →
     pieces ≡ overwritten_span k place f.next f.pieces →
@@ -194,7 +200,7 @@ pub span-holds : (k : ℕ) (f : FillOf) (place next : ℕ) (streak : Option Last
     })
 span-holds k f place next streak pieces on some i le fo en er ep =
     let h = going_on f.streak k f place next streak pieces refl on some i le fo en er ep
-        in rw h.0 h.1
+    in rw h.0 h.1
 
 -- the cells at a piece
 piece-cell : (r : Piece) (place k : ℕ) (cells : List ℕ) →

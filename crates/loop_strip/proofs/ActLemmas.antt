@@ -176,7 +176,7 @@ pub whole_waits : (verb : Option Verb) (s s' : Parts) → IsWhole s →
 whole_waits verb s s' w is layers pinned =
     whole_after (chunks_of s.layers.stack.tape) s s' w
     (kept_as _ s s' _ is
-        (with_deck (record (loop_of s).deck { waiting = verb }) s.layers.stack.streak
+    (with_deck (record (loop_of s).deck { waiting = verb }) s.layers.stack.streak
     (own_keeps s w) w.loop.in_mode w.loop.streak refl)) pinned
     (ap (λ (h : Layers). h.writing) layers ∙ w.writing
     ∙ sym (ap (λ (l : Loop ℕ). is_writing l.deck.mode) is))

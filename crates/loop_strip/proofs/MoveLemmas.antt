@@ -143,7 +143,7 @@ turned_keeps l may h =
     let now = turn_in l.deck.mode l.stack.layers l.stack.redo l.deck.pos l.deck.backward
     (not l.deck.backward) l.stack.streak may h.loop.in_mode h.loop.streak
     in with_deck
-        (record l.deck { backward = not l.deck.backward }) l.stack.streak h now.0 now.1 refl
+    (record l.deck { backward = not l.deck.backward }) l.stack.streak h now.0 now.1 refl
 
 -- and the parts whole
 pub whole_turned : (s s' : Parts) → IsWhole s → MayTurn s.deck.mode s.layers.stack.streak →
@@ -160,7 +160,7 @@ broken_keeps l h =
 -- and the parts whole
 pub whole_broken : (s s' : Parts) → IsWhole s → is_writing s.deck.mode ≡ true →
     loop_of s' ≡ with_stack (streak_broken (loop_of s).stack) (loop_of s) →
-        s'.layers.writing ≡ true →
+    s'.layers.writing ≡ true →
     s'.pinned ≡ s.pinned → IsWhole s'
 whole_broken s s' w writing is held pinned =
     keeps_mode s s' (with_stack (streak_broken (loop_of s).stack) (loop_of s)) w is

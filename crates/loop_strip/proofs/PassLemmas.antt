@@ -308,7 +308,7 @@ take_within (suc n) (x ∷ xs) ys le = ap (λ zs. x ∷ zs) (take_within n xs ys
 -- some frames more
 pub plays_more : (done count : ℕ) (xs hs part behind new : List Sound) (first now then : Parts)
     (p p1 p2 : PoolOf) → done ≤ length hs → count ≤ length part →
-        PlaysTo done xs hs first now p p1 →
+    PlaysTo done xs hs first now p p1 →
     Did (loop_over (take count (drop done xs))) (strip_of now) (strip_of then) p1 p2 →
     take count part ≡ loop_heard_over (take count (drop done xs)) (reach_in (strip_of now) p1)
     (seen (strip_of now) p1) →

@@ -85,7 +85,7 @@ impl Parts {
         requires whole { IsWhole self.now }
         ensures { result ≡ reply_value
             (pos (loop_value control free (loop_of self.now).controls
-                (face_of (loop_of self.now)))) }
+            (face_of (loop_of self.now)))) }
     {
         let face = self.face();
         self.controls.value(control, free, &face)

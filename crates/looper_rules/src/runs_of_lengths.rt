@@ -41,7 +41,7 @@ pub fn a_rounded_multiply_ends_with_its_cycle()
         ∷ 1 ∷ 2 ∷ 3 ∷ 1 ∷ 2 ∷ 3 ∷ 11 ∷ 12 ∷ 13 ∷ []))
         (value_reply 5 0 State 3 ∷ value_reply 6 0 LoopLen 9 ∷ []) []
         (one_loop_left
-            (track (record playing { controls = record first_controls { round = 1 } }))) }
+        (track (record playing { controls = record first_controls { round = 1 } }))) }
 {}
 
 /// An insert at the start of the list: the frames that come in stand before its first.

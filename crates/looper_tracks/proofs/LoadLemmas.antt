@@ -191,7 +191,7 @@ pub loading_none : (ss : List StripSettings) (lists : List (List Sound)) (room c
     Loading ss lists room chunks ls p 0
 loading_none ss lists room chunks ls p is fits all =
     let tracks : tracks_in p ls ≡ first_tracks ss [] = ap (tracks_in p) is
-        ∙ tracks_in-new_track room ss p
+    ∙ tracks_in-new_track room ss p
     in let none : used (map tape_of (tracks_in p ls)) ≡ 0 = ap (λ ts. used (map tape_of ts)) tracks
     ∙ no_tapes ss
     in record {

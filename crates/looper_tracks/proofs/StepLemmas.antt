@@ -75,7 +75,7 @@ track_did_play step wet xs heard s s' g g' a p p' l is wets did heard_is gain_is
     in let gain : g' ≡ gain_over wet step (heard_over xs (reach_in s p) (seen s p)) g = gain_is
     ∙ ap (λ hs. gain_over wet step hs g) heard_is
     in let now : DidTrack (track_over step xs) before
-        (record { strip = s'; gain = g'; asker = a }) p
+    (record { strip = s'; gain = g'; asker = a }) p
     p' = record {
       track = same_three _ _ _ _ a did.seen gain
           ∙ sym (track_played step wet (reach_in s p) xs (track_in p before) wets);
@@ -118,7 +118,7 @@ track_did act s s' g a p p' l is did =
       others = did.others;
     }
     in subst
-        (λ m. DidTrack (on_loop act) m (record { strip = s'; gain = g; asker = a }) p p') is now
+    (λ m. DidTrack (on_loop act) m (record { strip = s'; gain = g; asker = a }) p p') is now
 
 -- the same with no pool
 pub track_alone :
@@ -210,5 +210,5 @@ pub left_as :
     DidTrackAlone (λ reach t. freed_if (ended t.asker) t) l l
 left_as ended s g a o b l is asks some isnt =
     track_left ended l
-        (ap (λ (u : TrackOf). is_some (ended u.asker)) (sym is) ∙ ap is_some (sym asks)
+    (ap (λ (u : TrackOf). is_some (ended u.asker)) (sym is) ∙ ap is_some (sym asks)
     ∙ sym some ∙ isnt)

@@ -65,7 +65,7 @@ pub record Changed (ls : List TrackOf) (k : ℕ) (l' : TrackOf) (p p' : PoolOf) 
 
 track_changes :
     (ls : List TrackOf) (k : ℕ) (l l' : TrackOf) (p p' : PoolOf) → k < length ls →
-        l ≡ get_or ls k l →
+    l ≡ get_or ls k l →
     AllByRecursion (OwnsTrack p) ls → AreApart ls →
     Owns l'.strip p' → OthersStay l.strip l'.strip p p' → Changed ls k l' p p'
 track_changes [] k l l' p p' less is own apart owns others = absurd (omega arith)

@@ -35,7 +35,7 @@ pub(crate) fn play_all(
         tracks.old tracks.new pool.old pool.new }
     ensures sums { sums.new ≡ added_all sums.old
         (map given_of
-            (all_over step input.now (free_in pool.old) (tracks_in pool.old tracks.old))) }
+        (all_over step input.now (free_in pool.old) (tracks_in pool.old tracks.old))) }
     ensures within { AreSumsOf 16 sums.new }
 {
     for k in 0..tracks.len() {

@@ -84,14 +84,14 @@ swept_between least greatest first loops l h value true e small low high =
     let part = part_within span value small in
     rw (ap (λ x. swept (pos l) (pos x) value) is_high ∙ swept_up l span value)
     (in_between least greatest first loops l h (l + span * value / 127) low high (omega arith)
-      (omega (arith, is_high, part)))
+    (omega (arith, is_high, part)))
 swept_between least greatest first loops l h value false e small low high =
     let span = l - h in
     let is_low : l ≡ h + span = omega (arith, leb-false l h e) in
     let part = part_within span value small in
     rw (ap (λ x. swept (pos x) (pos h) value) is_low ∙ swept_down h span value part)
     (in_between least greatest first loops h l (h + span - span * value / 127) high low
-      (omega (arith, part)) (omega (arith, is_low, part)))
+    (omega (arith, part)) (omega (arith, is_low, part)))
 
 -- a value of a sweep is in a range that has both its ends
 swept_in : (least greatest first loops : ℕ) (low high : ℤ) (value : ℕ) → value < 128 →
@@ -167,12 +167,12 @@ given_may loops (Sweep channel number target control low high) (events.ControlCh
     let parts = sweep_parts loops channel number target control low high is in
     subst (MayBePlayed loops)
     (chosen (c == channel && n == number) (commands.Set target control (swept low high value))
-      command e)
+    command e)
     (record {
       played = refl;
       allowed = ap₂ (λ x y. x && y)
-        (ap₂ (λ x y. x && y) parts.has_target parts.of_loop)
-        (swept_in_range control loops low high value parts.of_loop event_is.2 parts.from_low
+          (ap₂ (λ x y. x && y) parts.has_target parts.of_loop)
+          (swept_in_range control loops low high value parts.of_loop event_is.2 parts.from_low
           parts.to_high);
     })
 given_may loops (Sweep channel number target control low high) (events.NoteOff c n) command is event_is e = absurd (cc)

@@ -28,8 +28,6 @@ mod write;
 
 pub use binding::{BindKind, Binding};
 pub use bindings::Bindings;
-pub use laws::{
-    bindings_come_back, bindings_have_one_reading, what_is_bound_may_be_played,
-};
+pub use laws::{bindings_come_back, bindings_have_one_reading, what_is_bound_may_be_played};
 pub use reader::read_bindings;
 pub use write::bindings_text;

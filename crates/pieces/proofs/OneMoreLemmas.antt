@@ -661,7 +661,7 @@ inserted-hint place a i ps xs e n lt =
       within = omega (arith, l);
       begins =
           rw (take-append_seam (joined a (before place ps)) (behind place ps))
-              (omega (arith, b, j));
+          (omega (arith, b, j));
     })
 
 -- and behind all

@@ -54,7 +54,7 @@ layers-more ps ms k lt =
 
 redo-more : (ps : List Piece) (ms : List Mark) (k : ℕ) → k < length ms →
     map (layer_of ps) (drop k ms)
-        ≡ layer_of ps (get_or ms k none) ∷ map (layer_of ps) (drop (suc k) ms)
+    ≡ layer_of ps (get_or ms k none) ∷ map (layer_of ps) (drop (suc k) ms)
 redo-more ps ms k lt = rw (drop-at k ms none lt) refl
 
 -- one layer fewer is an undo
@@ -97,7 +97,7 @@ seams-parts (suc n) (m ∷ ms) = let h = seams-parts n ms in omega (arith, h)
 -- the seams of layers and redo layers are those of all marks
 pub total-stack : (ps : List Piece) (ms : List Mark) (n : ℕ) →
     total_seams (reverse (map (layer_of ps) (take n ms))) + total_seams
-        (map (layer_of ps) (drop n ms))
+    (map (layer_of ps) (drop n ms))
     ≡ seams_in ms
 total-stack ps ms n =
     let a = total-reverse (map (layer_of ps) (take n ms)) in
@@ -372,7 +372,7 @@ room-added ps ms n seams redo h er en le =
 -- one layer more on top
 pub added-at : (ps ps' qs : List Piece) (ms ms' : List Mark) (n : ℕ) (m : Mark) →
     AreRanges ps ms n → map (layer_of ps) (drop n ms) ≡ [] → m.start ≡ length ps →
-        m.count ≡ length qs →
+    m.count ≡ length qs →
     ps' ≡ ps ++ qs → ms' ≡ ms ++ m ∷ [] →
     layers_at ps' ms' (n + 1) ≡ layers_added qs m.cycle m.end m.seams (layers_at ps ms n)
 added-at ps ps' qs ms ms' n m h none es ec ep em =
@@ -398,7 +398,7 @@ added-at ps ps' qs ms ms' n m h none es ec ep em =
 -- what always holds, with one layer more
 pub holds-added : (ps ps' qs : List Piece) (ms ms' : List Mark) (n : ℕ) (m : Mark) →
     AreRanges ps ms n → map (layer_of ps) (drop n ms) ≡ [] → m.start ≡ length ps →
-        m.count ≡ length qs →
+    m.count ≡ length qs →
     m.count ≤ m.seams → seams_in ms + m.seams ≤ max_seams → n < max_layers → Solid qs →
     m.length ≡ length (addresses qs) → length (addresses qs) ≤ max_list_frames → ps' ≡ ps ++ qs →
     ms' ≡ ms ++ m ∷ [] → AreRanges ps' ms' (n + 1)
@@ -558,7 +558,7 @@ layer-within ps ms n k m h lt e = rw e (laid-at 0 (length ps) k ms m lt h.laid)
 -- where nothing is undone there is a mark for each layer
 pub marks-room : (ps : List Piece) (ms : List Mark) (n : ℕ) → n ≤ length ms →
     map (layer_of ps) (drop n ms) ≡ [] →
-        length (reverse (map (layer_of ps) (take n ms))) < max_layers →
+    length (reverse (map (layer_of ps) (take n ms))) < max_layers →
     length ms < max_layers
 marks-room ps ms n le e lt =
     let a = length-layers ps ms n le in

@@ -7,7 +7,7 @@ returns-clause-list c =
     strip_turns c.args.input.now c.args.strip.now c.give.new.self c.play.new.self c.give-2.new.self
     c.args.pool.now c.give.new.pool c.play.new.pool c.give-2.new.pool
     (did_hit c.hit.ensures c.give.ensures) c.play.ensures.did
-        (did_hit c.hit-2.ensures c.give-2.ensures)
+    (did_hit c.hit-2.ensures c.give-2.ensures)
     c.requires.at_once c.requires.rests c.requires.forward c.requires.first c.requires.granted
     c.requires.turn c.requires.some c.requires.room
 

@@ -6,7 +6,7 @@ use Rattle.looper_tracks.proofs.read.running_session.Goals as goal
 pub loop-k-preserved : goal.loop-k-preserved
 loop-k-preserved c =
     λ p. runs_later _ _ _ p _ _ c.loop-k-test.true c.index-tracks-k.is
-        (c.session_asker-asker.ensures
+    (c.session_asker-asker.ensures
     ∙ ap session_asker c.asker.ensures) c.is_some.ensures c.if-is_some.false (c.loop-k.invariant p)
 
 pub returns-then-is_some : goal.returns-then-is_some

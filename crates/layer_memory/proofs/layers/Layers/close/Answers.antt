@@ -17,9 +17,9 @@ invariant_of-self c =
           c.len-end.result c.seams-seams.result (addresses c.pieces.result.now) c.self.inside.closed
           c.add.new.self c.self.inside.fill c.cut.new.self c.self.inside.top c.self.inside.pin
           (addresses c.self.inside.pinned.items) c.self.inside.seams
-              (search rules) c.self.invariant.0
+          (search rules) c.self.invariant.0
           (rw c.add.ensures refl)
-              (rw c.add.ensures refl) c.len-end.ensures.value same_seams same_next
+          (rw c.add.ensures refl) c.len-end.ensures.value same_seams same_next
           low,
       c.self.invariant.1,
     )

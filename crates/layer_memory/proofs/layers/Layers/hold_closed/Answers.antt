@@ -11,7 +11,7 @@ invariant_of-self c =
       held-pinned-closed c.self.inside.tape.len c.len.result c.self.inside.closed c.self.inside.fill
           c.self.inside.top c.self.inside.pin (addresses c.self.inside.pinned.items)
           (addresses c.set_to.new.self.items) c.self.inside.seams
-              (search rules) c.self.invariant.0 list
+          (search rules) c.self.invariant.0 list
           c.len.ensures.value,
       rw c.set_to.ensures c.self.invariant.1,
     )

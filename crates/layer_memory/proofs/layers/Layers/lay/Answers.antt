@@ -36,7 +36,7 @@ invariant_of-self c =
       held-loaded c.self.inside.tape.len c.push_all.new.tape.len (length c.args.frames.now)
           c.args.cycle c.self.inside.closed c.add.new.self c.self.inside.fill c.self.inside.top
           c.self.inside.pin (addresses c.self.inside.pinned.items) c.self.inside.seams _
-              (search rules)
+          (search rules)
           c.self.invariant.0 c.push_all.ensures.len layers (rw c.add.ensures refl) refl,
       c.self.invariant.1,
     )
