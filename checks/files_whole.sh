@@ -1,6 +1,7 @@
 #!/bin/sh
 # files_whole.sh PROGRAM: whatever happens to a run, the file that it writes is the old one or the new one, and where the
-# program goes on to its end it leaves no other file behind. A file that doesn't fit into memory changes nothing.
+# program goes on to its end it leaves no other file behind. Two programs in one folder write their own files. A file that doesn't
+# fit into memory changes nothing.
 # The last line is `N passed, N failed`. The status is 0 where none failed.
 program=$1
 top=$(cd "$(dirname "$0")/.." && pwd) || exit 1
@@ -19,15 +20,17 @@ byte() {
 number() {
     byte "$1" && byte $(($1 / 256)) && byte $(($1 / 65536)) && byte $(($1 / 16777216))
 }
-{
-    printf 'RIFF' && number $((size + 36)) && printf 'WAVEfmt \020\0\0\0\1\0\1\0'
-    number 48000 && number 96000 && printf '\2\0\020\0data' && number $size
-    head -c $size "$program" > "$folder/part"
-    while [ "$(wc -c < "$folder/part")" -lt $size ]; do
-        cat "$folder/part" "$folder/part" | head -c $size > "$folder/more" && mv "$folder/more" "$folder/part"
-    done
-    cat "$folder/part"
-} > "$folder/in.wav"
+# wave SIZE: a WAV file of so many bytes of sound.
+wave() {
+    printf 'RIFF' && number $(($1 + 36)) && printf 'WAVEfmt \020\0\0\0\1\0\1\0'
+    number 48000 && number 96000 && printf '\2\0\020\0data' && number "$1"
+    head -c "$1" "$folder/part"
+}
+head -c $size "$program" > "$folder/part"
+while [ "$(wc -c < "$folder/part")" -lt $size ]; do
+    cat "$folder/part" "$folder/part" | head -c $size > "$folder/more" && mv "$folder/more" "$folder/part"
+done
+wave $size > "$folder/in.wav"
 printf 'looper journal 1\n0 0 0 hit 0 record\n48000 0 1 hit 0 record\nend\n' > "$folder/journal.txt"
 printf 'the old file\n' > "$folder/old.wav"
 
@@ -106,6 +109,26 @@ for moment in $(seq 1 20); do
     done
 done
 echo "$stopped of 40 runs were stopped before their end"
+
+# Two programs in one folder, 200 times: each OUT is whole and its own.
+begin
+wave 100000 > "$folder/run/first.wav" && wave 60000 > "$folder/run/second.wav"
+alone() {
+    (cd "$folder/run" && exec "$program" render "$1.wav" journal.txt "$2" > ../text)
+}
+for name in first second; do
+    alone $name out.wav && mv "$folder/run/out.wav" "$folder/$name.wav"
+done
+mixed=0
+for pair in $(seq 1 200); do
+    alone first one.wav &
+    alone second two.wav
+    status=$?
+    wait $! && [ $status -eq 0 ] && holds one.wav first.wav && holds two.wav second.wav && has 6 || mixed=$((mixed + 1))
+    rm -f "$folder/run/one.wav" "$folder/run/two.wav"
+done
+[ $mixed -eq 0 ]
+judge "two programs in one folder, of which $mixed of 200 pairs mixed their files"
 
 # A folder that can't be written. Root writes there all the same.
 if [ "$(id -u)" -ne 0 ]; then

@@ -5,6 +5,7 @@
 use looper_cli::{Status, plain_run};
 use sl_ports::{DirKeeper, Sink, SinkAnswer, StdSink};
 use std::env::FillError;
+use std::fmt::Display;
 use std::process::ExitCode;
 use std::rt::Env;
 use std::{env, io};
@@ -71,24 +72,64 @@ fn words(rt: &HostRuntime) -> io::Result<Vec<String>> {
     }
 }
 
+/// The words of an error, without the number that the system gives it.
+fn without_number(text: &str) -> &str {
+    match text.split_once(" (os error ") {
+        Some((words, _)) => words,
+        None => text,
+    }
+}
+
+/// Says on standard error what failed. Where there is no memory or no such stream, nothing is said.
+fn say<D: Display>(rt: &HostRuntime, what: &D) {
+    if let Ok(text) = format!(in rt.alloc(); "looper: {what}") {
+        let _ = eprintln!(rt; "{}", without_number(text.as_str()));
+    }
+}
+
+/// Says why standard output failed, if it did.
+fn say_unwritten(rt: &HostRuntime, console: &StdSink<&HostRuntime>) {
+    if let Some(error) = console.first_fault() {
+        if let Ok(text) = format!(in rt.alloc(); "cannot write standard output: {error}") {
+            say(rt, &text);
+        }
+    }
+}
+
 /// Prints a text that no run is needed for.
-fn print(rt: &HostRuntime, text: &str) -> Status {
-    match StdSink::new(rt).write_all(text.as_bytes()) {
+fn print(rt: &HostRuntime, text: &str) -> u8 {
+    let mut console = StdSink::new(rt);
+    let status = match console.write_all(text.as_bytes()) {
         SinkAnswer::Done => Status::Done,
         SinkAnswer::Failed => Status::WriteFault,
+    };
+    say_unwritten(rt, &console);
+    status.number()
+}
+
+/// Runs the words, and says what failed.
+fn run(rt: &HostRuntime, words: &[String]) -> u8 {
+    let mut files = DirKeeper::new(rt);
+    let mut console = StdSink::new(rt);
+    let status = plain_run(rt.alloc(), words, &mut files, &mut console);
+    if status == Status::Words.number() {
+        say(
+            rt,
+            &"these words mean nothing here; looper --help shows what does",
+        );
     }
+    if let Some(fault) = files.first_fault() {
+        say(rt, fault);
+    }
+    say_unwritten(rt, &console);
+    status
 }
 
 fn status(rt: &HostRuntime, words: &[String]) -> u8 {
     match words {
-        [word] if word.as_str() == "--help" => print(rt, USAGE).number(),
-        [word] if word.as_str() == "--version" => print(rt, "looper 0.1.0\n").number(),
-        _ => plain_run(
-            rt.alloc(),
-            words,
-            &mut DirKeeper::new(rt),
-            &mut StdSink::new(rt),
-        ),
+        [word] if word.as_str() == "--help" => print(rt, USAGE),
+        [word] if word.as_str() == "--version" => print(rt, "looper 0.1.0\n"),
+        _ => run(rt, words),
     }
 }
 
