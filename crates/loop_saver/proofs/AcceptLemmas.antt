@@ -1,7 +1,7 @@
 -- What writing and holding do, put together.
-use Rattle.std.proofs.Common.{◌≡◌, ◌<◌, length, arith, ◌⊎◌, ℕ, List, [], ◌∷◌, ◌++◌, refl, sym, ap, ◌∙◌, subst, inl, inr}
+use Rattle.std.proofs.Common.{◌≡◌, ◌<◌, length, arith, ℕ, List, [], ◌∷◌, ◌++◌, refl, sym, ap, ◌∙◌, subst}
 use Rattle.std.proofs.lemmas.List.{append-nil}
-use Rattle.std.specs.Prelude.{Option, Some, None}
+use Rattle.std.specs.Prelude.{Option}
 use Rattle.std.proofs.Common.{append_assoc}
 use Rattle.sl_base.specs.Counting.{Rose}
 use Rattle.sl_base.specs.Sounds.{Sound}
@@ -11,7 +11,7 @@ use Rattle.sl_ports.specs.declared.keepers.Keeper.{Ghosts as Keeper}
 use Rattle.loop_saver.specs.declared.ending.Ending.{Ending}
 use Rattle.loop_saver.specs.declared.ending.Ending.TheVariants.{Written, Failed, Memory}
 use Rattle.loop_saver.specs.SavedFiles.{SavedFile, put_all, list_file}
-use Rattle.loop_saver.specs.Accepting.{WritesFirst, StopsWriting, Writes, GoesOn, MayWant}
+use Rattle.loop_saver.specs.Accepting.{WritesFirst, StopsWriting, Writes}
 
 -- the file of a list that isn't empty
 pub some_list :

@@ -1,13 +1,13 @@
 -- The blocks of a save may come one after another.
 use Rattle.std.proofs.Common.{◌≡◌, ℕ, ◌+◌, Bool, true, false, cond, List, [], ◌∷◌, ◌++◌, length, refl, sym, ap, ◌∙◌, subst}
-use Rattle.std.specs.Prelude.{Option, Some, None, ◌==◌, ◌&&◌, is_some}
+use Rattle.std.specs.Prelude.{Option, Some, None, ◌==◌, is_some}
 use Rattle.std.specs.Bool.{then_some}
 use Rattle.std.specs.List.{list_all}
 use Rattle.std.proofs.lemmas.Bool.{and_parts, and_from, eqb-true}
 use Rattle.sl_base.specs.Sounds.{Sound}
 use Rattle.sl_commands.specs.declared.Block.{Block}
 use Rattle.sl_commands.specs.declared.Block.TheVariants.{Head, Part, End}
-use Rattle.sl_commands.specs.Blocks.{parts_behind, parts_of_lists, first_index, blocks_of, Underway, Place, is_save_target, may_be_part, place_after, place_behind, save_of, fits_name, fits_target}
+use Rattle.sl_commands.specs.Blocks.{parts_behind, parts_of_lists, first_index, Underway, Place, is_save_target, may_be_part, place_after, place_behind, save_of, fits_name, fits_target}
 use Rattle.sl_commands.proofs.BlockLemmas.{save_comes}
 use Rattle.looper_rules.specs.Saves.{Save}
 use Rattle.looper_rules.specs.SaveBlocks.{blocks_of_save, MayBeSent}

@@ -1,5 +1,5 @@
 -- The files that the blocks of a save make due are its files.
-use Rattle.std.proofs.Common.{◌≡◌, ◌≢◌, ◌⊎◌, ℕ, suc, ◌+◌, ◌<◌, Bool, true, false, cond, List, [], ◌∷◌, ◌++◌, length, refl, sym, ap, ap₂, ◌∙◌, subst, arith, append_assoc, append-nil, length-append, inl, inr, eq-eqb}
+use Rattle.std.proofs.Common.{◌≡◌, ◌≢◌, ◌⊎◌, ℕ, suc, ◌+◌, ◌<◌, Bool, true, false, cond, List, [], ◌∷◌, ◌++◌, length, refl, sym, ap, ap₂, ◌∙◌, arith, append_assoc, append-nil, length-append, inl, inr, eq-eqb}
 use Rattle.std.specs.Prelude.{Option, Some, None, ◌==◌}
 use Rattle.std.proofs.lemmas.Bool.{ne_eqb}
 use Rattle.sl_base.specs.Sounds.{Sound}
@@ -12,7 +12,7 @@ use Rattle.looper_rules.specs.Saves.{Save}
 use Rattle.looper_rules.specs.SaveBlocks.{blocks_of_save}
 use Rattle.loop_saver.specs.declared.ending.Ending.TheVariants.{Written}
 use Rattle.loop_saver.specs.SavedFiles.{SavedFile, list_name, list_file, list_files, text_file, files_of_save}
-use Rattle.loop_saver.specs.Savers.{SavingOf, behind, due_for_all, behind_all, held_file}
+use Rattle.loop_saver.specs.Savers.{SavingOf, behind, due_for_all, behind_all}
 
 -- a save with this list held, so many frames of which came
 abbrev pub holding : List ℕ → LooperSettings → Target → ℕ → ℕ → ℕ → List Sound → SavingOf

@@ -1,5 +1,5 @@
 -- What the saver does with one block more.
-use Rattle.std.proofs.Common.{◌≡◌, ℕ, Bool, List, [], ◌∷◌, ◌++◌, length, refl, sym, ap, ap₂, ◌∙◌, subst, append_assoc}
+use Rattle.std.proofs.Common.{◌≡◌, ℕ, Bool, List, [], ◌∷◌, ◌++◌, refl, sym, ap, ap₂, ◌∙◌, subst, append_assoc}
 use Rattle.std.specs.Prelude.{Option, Some, None, is_some, ◌&&◌}
 use Rattle.std.proofs.lemmas.Bool.{and_parts}
 use Rattle.sl_commands.specs.declared.Block.{Block}
@@ -8,7 +8,7 @@ use Rattle.sl_commands.specs.Blocks.{Underway, place_after, save_of, fits_name}
 use Rattle.sl_ports.specs.declared.keepers.Keeper.{Ghosts as Keeper}
 use Rattle.loop_saver.specs.declared.ending.Ending.{Ending}
 use Rattle.loop_saver.specs.declared.ending.Ending.TheVariants.{Written, Failed, Memory}
-use Rattle.loop_saver.specs.declared.saver.Saved.TheVariants.{Continue, Finished}
+use Rattle.loop_saver.specs.declared.saver.Saved.TheVariants.{Continue}
 use Rattle.loop_saver.specs.SavedFiles.{SavedFile}
 use Rattle.loop_saver.specs.Savers.{SavingOf, with_frames, underway_in, may_come, due, due_for_all, behind, behind_all, may_all_come}
 use Rattle.loop_saver.specs.Accepting.{Writes, GoesOn, Accepts}

@@ -1,5 +1,5 @@
 -- Blocks are accepted one after another.
-use Rattle.std.proofs.Common.{◌≡◌, ℕ, List, [], ◌∷◌, ◌++◌, refl, sym, ap, ◌∙◌, subst, append_assoc, append-nil}
+use Rattle.std.proofs.Common.{ℕ, List, [], ◌∷◌, ◌++◌, refl, sym, ap, ◌∙◌, subst, append_assoc, append-nil}
 use Rattle.std.specs.Prelude.{Option, Some, None, IsTrue}
 use Rattle.std.specs.List.{AllByRecursion}
 use Rattle.sl_commands.specs.declared.Block.{Block}
@@ -9,10 +9,9 @@ use Rattle.sl_ports.specs.declared.keepers.Keeper.{Ghosts as Keeper}
 use Rattle.loop_saver.specs.declared.ending.Ending.{Ending}
 use Rattle.loop_saver.specs.declared.ending.Ending.TheVariants.{Written, Failed, Memory}
 use Rattle.loop_saver.specs.declared.saver.Saved.{Saved}
-use Rattle.loop_saver.specs.declared.saver.Saved.TheVariants.{Continue, Finished}
 use Rattle.loop_saver.specs.Savers.{SavingOf, ending_number}
 use Rattle.loop_saver.specs.Accepting.{Accepts}
-use Rattle.loop_saver.specs.Keeping.{Keeps, KeepsOn, outcome_in}
+use Rattle.loop_saver.specs.Keeping.{Keeps, outcome_in}
 
 -- each outcome is one
 abbrev AreOutcomes : List ℕ → Type 0

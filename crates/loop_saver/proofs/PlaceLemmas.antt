@@ -1,5 +1,5 @@
 -- A saver is at the place that the blocks lead to which it accepted.
-use Rattle.std.proofs.Common.{◌≡◌, ℕ, ◌+◌, Bool, true, false, ◌&&◌, List, [], ◌∷◌, ◌++◌, length, refl, sym, ap, ap₂, ◌∙◌, subst, append_assoc, append-nil, length-append, arith, nat_lt}
+use Rattle.std.proofs.Common.{◌≡◌, ℕ, ◌+◌, ◌&&◌, List, [], ◌∷◌, ◌++◌, length, refl, sym, ap, ap₂, ◌∙◌, subst, append_assoc, append-nil, length-append, arith, nat_lt}
 use Rattle.std.specs.Prelude.{Option, Some, None, is_some, IsTrue}
 use Rattle.std.proofs.lemmas.Bool.{and_parts, and_from}
 use Rattle.sl_commands.specs.declared.Block.{Block}
@@ -8,7 +8,6 @@ use Rattle.sl_commands.specs.Blocks.{Underway, Place, first_place, place_after, 
 use Rattle.sl_commands.proofs.BlockLemmas.{place_behind-append}
 use Rattle.sl_ports.specs.declared.keepers.Keeper.{Ghosts as Keeper}
 use Rattle.loop_saver.specs.declared.saver.Saved.{Saved}
-use Rattle.loop_saver.specs.declared.saver.Saved.TheVariants.{Continue, Finished}
 use Rattle.loop_saver.specs.Savers.{SavingOf, underway_in, may_come}
 use Rattle.loop_saver.specs.Accepting.{Accepts}
 use Rattle.loop_saver.specs.Keeping.{Keeps, HasCome, outcome_in}

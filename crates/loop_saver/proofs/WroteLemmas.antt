@@ -1,9 +1,9 @@
 -- The blocks of saves write the files of these saves, one save after another.
-use Rattle.std.proofs.Common.{◌≡◌, ◌≤◌, ℕ, ◌+◌, ◌==◌, cond, Bool, true, false, ◌&&◌, not, List, [], ◌∷◌, ◌++◌, length, min, refl, sym, ap, ap₂, ◌∙◌, subst, append_assoc, append-nil, arith}
+use Rattle.std.proofs.Common.{◌≡◌, ℕ, ◌+◌, ◌==◌, cond, Bool, true, false, not, List, [], ◌∷◌, ◌++◌, length, refl, sym, ap, ap₂, ◌∙◌, subst, append_assoc, append-nil, arith}
 use Rattle.std.specs.Prelude.{Option, Some, None}
 use Rattle.std.specs.List.{AllByRecursion, list_all}
 use Rattle.std.proofs.lemmas.Bool.{and_parts, and_from}
-use Rattle.sl_base.specs.Counting.{Rose, RoseBy}
+use Rattle.sl_base.specs.Counting.{RoseBy}
 use Rattle.sl_base.specs.Sounds.{Sound}
 use Rattle.sl_commands.specs.declared.Block.{Block}
 use Rattle.sl_commands.specs.declared.Block.TheVariants.{Head, Part, End}
@@ -16,8 +16,8 @@ use Rattle.loop_saver.specs.declared.ending.Ending.TheVariants.{Written, Failed,
 use Rattle.loop_saver.specs.SavedFiles.{SavedFile, files_of_save}
 use Rattle.loop_saver.specs.Savers.{SavingOf, ending_number, underway_in}
 use Rattle.loop_saver.specs.Accepting.{Writes, Accepts}
-use Rattle.loop_saver.specs.Coming.{Feeds, MayEnd, HasWritten}
-use Rattle.loop_saver.specs.Keeping.{Keeps, KeepsOn, outcome_in, WroteSave, WroteSaves, failed_in}
+use Rattle.loop_saver.specs.Coming.{Feeds, HasWritten}
+use Rattle.loop_saver.specs.Keeping.{Keeps, outcome_in, WroteSave, WroteSaves, failed_in}
 use Rattle.loop_saver.proofs.ComeLemmas.{save_blocks_come}
 use Rattle.loop_saver.proofs.DueLemmas.{files_due, save_over}
 use Rattle.loop_saver.proofs.FeedLemmas.{feeds_on, files_on}

@@ -3,9 +3,8 @@
 -- it is. A save ends 0 where all its files are written, 1 where a write failed since its head, and
 -- 4 where memory was wanted, also behind all its files.
 -- "Files of a save" in docs/formats.md.
-use Rattle.std.specs.Prelude.{◌≡◌, ◌⊎◌, ℕ, List, [], ◌∷◌, ◌++◌, Option, Some, None}
+use Rattle.std.specs.Prelude.{◌≡◌, ◌⊎◌, ℕ, List, ◌∷◌, ◌++◌, Option, Some, None}
 use Rattle.sl_base.specs.Counting.{Rose}
-use Rattle.sl_commands.specs.declared.Target.{Target}
 use Rattle.sl_commands.specs.declared.Block.{Block}
 use Rattle.sl_commands.specs.declared.Block.TheVariants.{Head, Part, End}
 use Rattle.sl_ports.specs.Files.{Files}

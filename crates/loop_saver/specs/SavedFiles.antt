@@ -5,7 +5,7 @@
 use Rattle.std.specs.Prelude.{ℕ, ◌+◌, List, [], ◌∷◌, ◌++◌, Option}
 use Rattle.sl_base.specs.Sounds.{Sound}
 use Rattle.sl_commands.specs.declared.Target.{Target}
-use Rattle.sl_commands.specs.declared.Target.TheVariants.{One, All, Selected}
+use Rattle.sl_commands.specs.declared.Target.TheVariants.{All}
 use Rattle.sl_commands.specs.Settings.{LooperSettings}
 use Rattle.sl_commands.specs.Blocks.{first_index}
 use Rattle.sl_ports.specs.Files.{Files, put_told}
