@@ -38,14 +38,11 @@ impl Journal {
         ensures { IfOk result (λ journal. journal ≡ record { entries = []; quota = quota }) }
     {
         let capacity = 4 * quota as usize;
-        match Vec::with_capacity(alloc, capacity) {
-            Ok(entries) => Ok(Journal {
-                entries,
-                quota,
-                counts: [0; 3],
-            }),
-            Err(_) => Err(Memory),
-        }
+        Ok(Journal {
+            entries: Vec::with_capacity(alloc, capacity)?,
+            quota,
+            counts: [0; 3],
+        })
     }
 
     /// How many entries the sender has: the number of its next one.

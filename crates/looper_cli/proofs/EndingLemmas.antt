@@ -28,7 +28,7 @@ told_done :
     ((bytes : List ℕ) → Said bytes → Told bytes) →
     IsDone asked before after Said → IsDone asked before after Told
 told_done (renders r) before after Said Told tells done =
-    record { told = done.told; run = done.run; files = done.files; text = tells _ done.text }
+    record { contents = done.contents; run = done.run; files = done.files; text = tells _ done.text }
 told_done (shows session) before after Said Told tells done = (
   record {
     settings = done.0.settings;
@@ -111,7 +111,7 @@ done_has_no_bad_file :
     (kind line : ℕ) → IsNamedBy asked →
     IsDone asked (Some files) after Told → IsBadFor asked (Some files) name kind line → ⊥
 done_has_no_bad_file (renders r) files after Told name kind line named done bad =
-    run_or_bad files (named_of r) done.told name kind line named done.run.holds bad
+    run_or_bad files (named_of r) done.contents name kind line named done.run.holds bad
 done_has_no_bad_file (shows session) files after Told name kind line named done bad =
     loaded_or_bad files session done.0.settings done.0.lists name kind line done.0.loaded bad
 
@@ -121,8 +121,8 @@ unwritten_has_no_bad_file :
     (kind line : ℕ) → IsNamedBy asked → k.files old ≡ Some files →
     CannotWrite k asked old new → IsBadFor asked (Some files) name kind line → ⊥
 unwritten_has_no_bad_file k (renders r) old new files name kind line named told cannot bad =
-    run_or_bad files (named_of r) cannot.first.told name kind line named
-    (subst (λ before. IsRunOf before (named_of r) cannot.first.told) told cannot.first.run).holds
+    run_or_bad files (named_of r) cannot.first.contents name kind line named
+    (subst (λ before. IsRunOf before (named_of r) cannot.first.contents) told cannot.first.run).holds
     bad
 unwritten_has_no_bad_file k (shows session) old new files name kind line named told cannot bad =
     cannot
@@ -133,7 +133,7 @@ beyond_has_no_bad_file :
     IsBeyondFor asked (Some files) →
     IsBadFor asked (Some files) name kind line → ⊥
 beyond_has_no_bad_file (renders r) files name kind line named beyond bad =
-    run_or_bad files (named_of r) beyond.told name kind line named beyond.holds bad
+    run_or_bad files (named_of r) beyond.contents name kind line named beyond.holds bad
 beyond_has_no_bad_file (shows session) files name kind line named beyond bad = beyond
 
 -- a command that is done is within the limits
@@ -142,7 +142,7 @@ done_is_within :
     IsNamedBy asked → IsDone asked (Some files) after Told →
     IsBeyondFor asked (Some files) → ⊥
 done_is_within (renders r) files after Told named done beyond =
-    run_or_limit files (named_of r) done.told named done.run beyond
+    run_or_limit files (named_of r) done.contents named done.run beyond
 done_is_within (shows session) files after Told named done beyond = beyond
 
 -- and so is one that couldn't write
@@ -151,8 +151,8 @@ unwritten_is_within :
     k.files old ≡ Some files → CannotWrite k asked old new →
     IsBeyondFor asked (Some files) → ⊥
 unwritten_is_within k (renders r) old new files named told cannot beyond =
-    run_or_limit files (named_of r) cannot.first.told named
-    (subst (λ before. IsRunOf before (named_of r) cannot.first.told) told cannot.first.run) beyond
+    run_or_limit files (named_of r) cannot.first.contents named
+    (subst (λ before. IsRunOf before (named_of r) cannot.first.contents) told cannot.first.run) beyond
 unwritten_is_within k (shows session) old new files named told cannot beyond = beyond
 
 -- where there is a bad file, the status is one of three

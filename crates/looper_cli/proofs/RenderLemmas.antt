@@ -17,11 +17,11 @@ use Rattle.journal_run.specs.declared.ending.Performed.{Performed}
 use Rattle.save_feeding.specs.declared.stopped.Stopped.{Stopped}
 use Rattle.save_feeding.specs.declared.stopped.Stopped.TheVariants.{Writing as Unwritten, Memory as Wanted}
 use Rattle.run_files.specs.Named.{Named}
-use Rattle.run_files.specs.AllFiles.{Told, IsRunOf, ExceedsLimit, FirstBad}
+use Rattle.run_files.specs.AllFiles.{Contents, IsRunOf, ExceedsLimit, FirstBad}
 use Rattle.run_files.specs.Readings.{ReadsRun, is_unread}
 use Rattle.run_files.specs.declared.run.RunFiles.{RunFiles}
-use Rattle.run_files.specs.declared.run.RunFault.{RunFault as FilesFault}
-use Rattle.run_files.specs.declared.run.RunFault.TheVariants.{File as BadOne, Read as NotRead, Memory as NoRoom, Limit as TooMuch}
+use Rattle.run_files.specs.declared.run.FilesFault.{FilesFault}
+use Rattle.run_files.specs.declared.run.FilesFault.TheVariants.{File as BadOne, Read as NotRead, Memory as NoRoom, Limit as TooMuch}
 use Rattle.looper_cli.specs.Words.{RenderAsked}
 use Rattle.looper_cli.specs.Named.{named_of}
 use Rattle.looper_cli.specs.Console.{done_text}
@@ -54,12 +54,12 @@ unread_fails k r n old new TooMuch result same reads value passed =
 
 -- the first files of the saves are the first of all
 saves_come_first :
-    {P : Type 0} (k : Keeper P) (r : RenderAsked) (t : Told) (old mid new : P) →
+    {P : Type 0} (k : Keeper P) (r : RenderAsked) (t : Contents) (old mid new : P) →
     IsRunOf (k.files old) (named_of r) t → k.files mid ≡ k.files old →
     WritesFirst (saved_by t.entries (input_of t) (looper_of r t)) (k.files mid) (k.files new) →
     RendersFirst r (k.files old) (k.files new)
 saves_come_first k r t old mid new is same first = record {
-  told = t;
+  contents = t;
   run = is;
   files = writes_before (saved_by t.entries (input_of t) (looper_of r t)) (out_file r t ∷ [])
       (k.files old) (k.files new)
@@ -69,12 +69,12 @@ saves_come_first k r t old mid new is same first = record {
 
 -- and where one of them isn't written, one of all isn't
 saves_stop :
-    {P : Type 0} (k : Keeper P) (r : RenderAsked) (t : Told) (old mid new : P) →
+    {P : Type 0} (k : Keeper P) (r : RenderAsked) (t : Contents) (old mid new : P) →
     IsRunOf (k.files old) (named_of r) t → k.files mid ≡ k.files old →
     StopsWriting (saved_by t.entries (input_of t) (looper_of r t)) (k.files mid) (k.files new) →
     StopsRendering r (k.files old) (k.files new)
 saves_stop k r t old mid new is same first = record {
-  told = t;
+  contents = t;
   run = is;
   files = stops_before (saved_by t.entries (input_of t) (looper_of r t)) (out_file r t ∷ [])
       (k.files old) (k.files new)
@@ -84,7 +84,7 @@ saves_stop k r t old mid new is same first = record {
 
 -- what a run gave of the files that were read
 pub played_so :
-    {P : Type 0} (k : Keeper P) (r : RenderAsked) (t : Told) (mid new : P) (es : List Entry)
+    {P : Type 0} (k : Keeper P) (r : RenderAsked) (t : Contents) (mid new : P) (es : List Entry)
     (chunks : ℕ) (answer : Result Performed Stopped) → es ≡ t.entries →
     chunks ≡ r.chunks → Performs k es (input_of t) (start t.settings chunks t.lists) mid new answer →
     Performs k t.entries (input_of t) (looper_of r t) mid new answer
@@ -102,7 +102,7 @@ gave p = Ok p
 
 -- where a run ends before OUT, the first files of its saves are written
 pub unplayed_fails :
-    {P : Type 0} (k : Keeper P) (r : RenderAsked) (n : Named) (t : Told) (old mid new : P)
+    {P : Type 0} (k : Keeper P) (r : RenderAsked) (n : Named) (t : Contents) (old mid new : P)
     (fault : Stopped) (result : RunFault) → n ≡ named_of r →
     OnlyReads k old mid false → IsRunOf (k.files old) n t →
     Performs k t.entries (input_of t) (looper_of r t) mid new (unplayed fault) →
@@ -120,7 +120,7 @@ unplayed_fails k r n t old mid new Wanted result same reads is plays passed =
 
 -- so they are where there is no memory for the text
 pub untold_fails :
-    {P : Type 0} (k : Keeper P) (r : RenderAsked) (n : Named) (t : Told) (old mid new : P)
+    {P : Type 0} (k : Keeper P) (r : RenderAsked) (n : Named) (t : Contents) (old mid new : P)
     (p : Performed) → n ≡ named_of r →
     OnlyReads k old mid false → IsRunOf (k.files old) n t →
     Performs k t.entries (input_of t) (looper_of r t) mid new (gave p) → FailsBy k r old new Lacking
@@ -132,7 +132,7 @@ untold_fails k r n t old mid new p same reads is plays =
 
 -- all files of a run, where OUT comes behind those of its saves
 out_comes_last :
-    (r : RenderAsked) (t : Told) (old mid played new : Option Files) (bytes : List ℕ) → mid ≡ old →
+    (r : RenderAsked) (t : Contents) (old mid played new : Option Files) (bytes : List ℕ) → mid ≡ old →
     played ≡ put_all (saved_by t.entries (input_of t) (looper_of r t)) mid →
     bytes ≡ (out_file r t).bytes → new ≡ put_told played r.out bytes →
     new ≡ put_all (files_of_run r t) old
@@ -144,7 +144,7 @@ out_comes_last r t old mid played new bytes same saved made written =
 
 -- a run whose files are all written is done, and its text is told
 pub run_is_done :
-    {P : Type 0} (k : Keeper P) (r : RenderAsked) (n : Named) (t : Told) (old mid played new : P)
+    {P : Type 0} (k : Keeper P) (r : RenderAsked) (n : Named) (t : Contents) (old mid played new : P)
     (p : Performed) (bytes text : List ℕ) → n ≡ named_of r →
     OnlyReads k old mid false → IsRunOf (k.files old) n t →
     Performs k t.entries (input_of t) (looper_of r t) mid played (gave p) →
@@ -153,7 +153,7 @@ pub run_is_done :
     Renders r (k.files old) (k.files new) (λ said. text ≡ said)
 run_is_done k r n t old mid played new p bytes text same reads is plays bytes_are text_is written =
     record {
-      told = t;
+      contents = t;
       run = subst (λ m. IsRunOf (k.files old) m t) same is;
       files = out_comes_last r t (k.files old) (k.files mid) (k.files played) (k.files new) bytes
           reads.files plays.2.0 (bytes_are ∙ plays.0) written;
@@ -162,7 +162,7 @@ run_is_done k r n t old mid played new p bytes text same reads is plays bytes_ar
 
 -- where OUT can't be written, it is left
 pub out_is_left :
-    {P : Type 0} (k : Keeper P) (r : RenderAsked) (n : Named) (t : Told) (old mid played new : P)
+    {P : Type 0} (k : Keeper P) (r : RenderAsked) (n : Named) (t : Contents) (old mid played new : P)
     (p : Performed) → n ≡ named_of r →
     OnlyReads k old mid false → IsRunOf (k.files old) n t →
     Performs k t.entries (input_of t) (looper_of r t) mid played (gave p) →
@@ -173,7 +173,7 @@ out_is_left k r n t old mid played new p same reads is plays left rose =
     let out = one_failed k (out_file r t) played new left rose in
     record {
       first = record {
-        told = t;
+        contents = t;
         run = subst (λ m. IsRunOf (k.files old) m t) same is;
         files = stops_behind saves (out_file r t ∷ []) (k.files old) (k.files played)
             (k.files new) (plays.2.0 ∙ ap (put_all saves) reads.files) out.0;
@@ -200,7 +200,7 @@ unread_counts k old new TooMuch result reads passed =
 
 -- a run that stops changes the count of writes alone
 pub unplayed_counts :
-    {P : Type 0} (k : Keeper P) (r : RenderAsked) (t : Told) (old mid new : P) (fault : Stopped)
+    {P : Type 0} (k : Keeper P) (r : RenderAsked) (t : Contents) (old mid new : P) (fault : Stopped)
     (result : RunFault) → OnlyReads k old mid false →
     Performs k t.entries (input_of t) (looper_of r t) mid new (unplayed fault) →
     k.read_faults new ≡ k.read_faults mid → PassesPlay fault result →

@@ -40,9 +40,9 @@ use Rattle.journal_run.specs.RunTexts.{run_text}
 use Rattle.journal_run.specs.Performing.{ran_over, saved_by}
 use Rattle.save_feeding.specs.declared.stopped.Stopped.{Stopped}
 use Rattle.save_feeding.specs.declared.stopped.Stopped.TheVariants.{Writing as Unwritten, Memory as Wanted}
-use Rattle.run_files.specs.AllFiles.{Told, IsRunOf, ExceedsLimit, FirstBad}
-use Rattle.run_files.specs.declared.run.RunFault.{RunFault as FilesFault}
-use Rattle.run_files.specs.declared.run.RunFault.TheVariants.{File as BadOne, Read as NotRead, Memory as NoRoom, Limit as TooMuch}
+use Rattle.run_files.specs.AllFiles.{Contents, IsRunOf, ExceedsLimit, FirstBad}
+use Rattle.run_files.specs.declared.run.FilesFault.{FilesFault}
+use Rattle.run_files.specs.declared.run.FilesFault.TheVariants.{File as BadOne, Read as NotRead, Memory as NoRoom, Limit as TooMuch}
 use Rattle.looper_cli.specs.Words.{RenderAsked, Asked, renders, shows}
 use Rattle.looper_cli.specs.Named.{named_of}
 use Rattle.looper_cli.specs.Console.{bad_file_text, done_text, show_text}
@@ -53,7 +53,7 @@ use Rattle.looper_cli.specs.declared.status.Status.{Status}
 use Rattle.looper_cli.specs.declared.status.Status.TheVariants.{Done, Words, BadFile, ReadFault, WriteFault, Memory, Limit}
 
 -- what a run goes over, and the looper that it begins with
-abbrev pub input_of : Told → InputOf
+abbrev pub input_of : Contents → InputOf
 input_of t = record {
   rate = t.spelling.rate;
   channels = t.spelling.channels;
@@ -62,47 +62,47 @@ input_of t = record {
   frames = t.frames;
 }
 
-abbrev pub looper_of : RenderAsked → Told → Looper
+abbrev pub looper_of : RenderAsked → Contents → Looper
 looper_of r t = start t.settings r.chunks t.lists
 
 -- the run of the rules
-abbrev pub ran_of : RenderAsked → Told → Ran
+abbrev pub ran_of : RenderAsked → Contents → Ran
 ran_of r t = ran_over t.entries (input_of t) (looper_of r t)
 
 -- what is written: the files of all saves, and OUT behind them
-abbrev pub out_file : RenderAsked → Told → SavedFile
+abbrev pub out_file : RenderAsked → Contents → SavedFile
 out_file r t = record {
   name = r.out;
   bytes =
       wav_text (ran_of r t).output t.spelling.channels t.spelling.bits t.spelling.rate;
 }
 
-abbrev pub files_of_run : RenderAsked → Told → List SavedFile
+abbrev pub files_of_run : RenderAsked → Contents → List SavedFile
 files_of_run r t = saved_by t.entries (input_of t) (looper_of r t) ++ out_file r t ∷ []
 
 -- what is told
-abbrev pub text_of_run : RenderAsked → Told → List ℕ
+abbrev pub text_of_run : RenderAsked → Contents → List ℕ
 text_of_run r t = done_text (run_text (length t.frames) (length t.entries) (ran_of r t))
 
 -- all files of a run are written and no other, and its text is told so
 pub record Renders (r : RenderAsked) (before after : Option Files)
     (Says : List ℕ → Type 0) : Type 0 where
-  pub told : Told
-  pub run : IsRunOf before (named_of r) told
-  pub files : after ≡ put_all (files_of_run r told) before
-  pub text : Says (text_of_run r told)
+  pub contents : Contents
+  pub run : IsRunOf before (named_of r) contents
+  pub files : after ≡ put_all (files_of_run r contents) before
+  pub text : Says (text_of_run r contents)
 
 -- the first of the files of a run are written and no other
 pub record RendersFirst (r : RenderAsked) (before after : Option Files) : Type 0 where
-  pub told : Told
-  pub run : IsRunOf before (named_of r) told
-  pub files : WritesFirst (files_of_run r told) before after
+  pub contents : Contents
+  pub run : IsRunOf before (named_of r) contents
+  pub files : WritesFirst (files_of_run r contents) before after
 
 -- the same where one of the files is left at least: it isn't written, and none behind it is
 pub record StopsRendering (r : RenderAsked) (before after : Option Files) : Type 0 where
-  pub told : Told
-  pub run : IsRunOf before (named_of r) told
-  pub files : StopsWriting (files_of_run r told) before after
+  pub contents : Contents
+  pub run : IsRunOf before (named_of r) contents
+  pub files : StopsWriting (files_of_run r contents) before after
 
 -- no count of the keeper rose
 pub record StaysWhole {P : Type 0} (k : Keeper P) (old new : P) : Type 0 where

@@ -12,7 +12,7 @@ ghost use Rattle.looper_cli.specs.declared.status.Status.TheVariants.{Done};
 use crate::status::{RunFault, Status};
 use crate::words::Render;
 use journal_run::{Performed, play};
-use run_files::{RunFault as FilesFault, read_run};
+use run_files::{FilesFault, read_run};
 use save_feeding::Stopped;
 use sl_ports::{KeepAnswer, Keeper};
 use std::alloc::Global;

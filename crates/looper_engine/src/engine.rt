@@ -12,21 +12,21 @@ ghost use Rattle.engine_steps.specs.Engines.{Beginning, first_engine, entry_of, 
 ghost use Rattle.engine_steps.specs.InStep.{IsInStep, SoFar, nothing, with_taken, with_frames, with_block};
 ghost use Rattle.whole_looper.specs.Loopers.{refused_in};
 ghost use Rattle.looper_rules.specs.Unanswered.{holds_of, HoldPins};
-ghost use Rattle.looper_engine.specs.declared.setup.EngineFault.TheVariants.{Limit};
+ghost use Rattle.whole_looper.specs.declared.fault.BeginFault.TheVariants.{Limit};
 ghost use Rattle.looper_engine.specs.Queues.{empty_queue};
 ghost use Rattle.looper_engine.specs.EngineParts.{engine_of};
 ghost use Rattle.looper_engine.specs.Beginnings.{beginning_of};
 
 use crate::queue::Queue;
 use crate::saving::{block_at, block_total, seek_block};
-use crate::setup::{EngineFault, Setup};
+use crate::setup::Setup;
 use crate::taking::{asked_by, made_save, released_by};
 use frame_stamp::Journal;
-use sl_base::Frame;
+use sl_base::{Frame, Memory};
 use sl_commands::{Block, Command, Initial, Reply, Target};
 use std::alloc::Global;
 use std::marker::Model;
-use whole_looper::{Looper, Refused};
+use whole_looper::{BeginFault, Looper};
 
 /// A looper with its journal and the saves that no release has answered.
 #[derive(Drop)]
@@ -62,7 +62,7 @@ fn stamp(journal: &mut Journal, frame: u64, sender: u8, command: Command)
 impl Engine {
     /// An engine before all frames and entries, with the list of each loop by index; loops without
     /// one begin empty. Only this call takes memory.
-    pub fn new(alloc: Global, setup: &Setup, initial: &Initial) -> Result<Engine, EngineFault>
+    pub fn new(alloc: Global, setup: &Setup, initial: &Initial) -> Result<Engine, BeginFault>
         requires lists { AreLists setup.now.settings.strips initial.now }
         requires chunks { setup.now.chunks ≤ max_chunks }
         requires some { 1 ≤ setup.now.quota }
@@ -72,19 +72,16 @@ impl Engine {
             (λ e. IsBeginning setup.now.settings setup.now.chunks initial.now) }
         ensures in_step { IfOk result
             (λ e. IsInStep (beginning_of setup.now initial.now) nothing e) }
-        ensures limit { IsErrOf result EngineFault.Limit ↔
+        ensures limit { IsErrOf result BeginFault.Limit ↔
             (setup.now.chunks < used (map length initial.now)) }
     {
         setup.facts();
-        match Looper::new(alloc, &setup.settings, setup.chunks, initial.as_slice()) {
-            Err(Refused::Limit) => Err(EngineFault::Limit),
-            Err(Refused::Memory) => Err(EngineFault::Memory),
-            Ok(looper) => Engine::over(alloc, looper, setup.quota),
-        }
+        let looper = Looper::new(alloc, &setup.settings, setup.chunks, initial.as_slice())?;
+        Ok(Engine::over(alloc, looper, setup.quota)?)
     }
 
     /// An engine over this looper, before all frames and entries.
-    fn over(alloc: Global, looper: Looper, quota: u32) -> Result<Engine, EngineFault>
+    fn over(alloc: Global, looper: Looper, quota: u32) -> Result<Engine, Memory>
         requires kept { KeepsLooper 0 looper }
         requires free { HoldPins [] (holds_of looper) }
         requires none { looper.saves ≡ 0 }
@@ -92,20 +89,15 @@ impl Engine {
         requires quota { quota ≤ max_quota }
         ensures value { IfOk result
             (λ e. e ≡ engine_of looper (record { entries = []; quota = quota }) 0 empty_queue) }
-        ensures limit { result ≢ Err Limit }
     {
-        match Journal::with_quota(alloc, quota) {
-            Err(_) => Err(EngineFault::Memory),
-            Ok(journal) => match Queue::new(alloc) {
-                Err(_) => Err(EngineFault::Memory),
-                Ok(queue) => Ok(Engine {
-                    looper,
-                    journal,
-                    frames_done: 0,
-                    queue,
-                }),
-            },
-        }
+        let journal = Journal::with_quota(alloc, quota)?;
+        let queue = Queue::new(alloc)?;
+        Ok(Engine {
+            looper,
+            journal,
+            frames_done: 0,
+            queue,
+        })
     }
 
     /// There is a number for one more save.

@@ -31,5 +31,6 @@ pub use laws::{
     an_engine_with_more_loops_sounds_the_same, frames_are_those_of_their_stretches,
     the_blocks_of_a_save_hold_its_lists_at_its_entry,
 };
-pub use setup::{EngineFault, Setup};
+pub use setup::Setup;
 pub use step_laws::{a_save_has_as_many_blocks_as_steps, each_step_is_the_block};
+pub use whole_looper::BeginFault as EngineFault;

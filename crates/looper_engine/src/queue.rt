@@ -58,17 +58,11 @@ impl Queue {
     pub fn new(alloc: Global) -> Result<Queue, Memory>
         ensures { IfOk result (λ q. q ≡ empty_queue) }
     {
-        match Vec::with_capacity(alloc, Queue::CAPACITY) {
-            Err(_) => Err(Memory),
-            Ok(due) => match Vec::with_capacity(alloc, Queue::CAPACITY) {
-                Err(_) => Err(Memory),
-                Ok(sending) => Ok(Queue {
-                    due,
-                    sending,
-                    part: 0,
-                }),
-            },
-        }
+        Ok(Queue {
+            due: Vec::with_capacity(alloc, Queue::CAPACITY)?,
+            sending: Vec::with_capacity(alloc, Queue::CAPACITY)?,
+            part: 0,
+        })
     }
 
     /// The save that was made, where there is one, stands behind the others.

@@ -1,4 +1,4 @@
-//! With what an engine begins, and why it may not.
+//! With what an engine begins.
 
 ghost use Rattle.std.specs.Prelude.{◌≡◌, length, IsTrue};
 ghost use Rattle.sl_commands.specs.Settings.{are_settings};
@@ -29,13 +29,4 @@ impl Setup {
     {
         self.settings.loop_count()
     }
-}
-
-/// Why an engine doesn't begin.
-#[derive(Clone, Copy, Debug, PartialEq, Eq)]
-pub enum EngineFault {
-    /// The lists that the loops begin with take more chunks than there are.
-    Limit,
-    /// There was no memory.
-    Memory,
 }

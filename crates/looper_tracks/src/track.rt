@@ -55,14 +55,11 @@ impl Track {
         requires chunks { chunks ≤ max_chunks }
         ensures { IfOk result (λ l. l ≡ new_track chunks settings) }
     {
-        match Strip::new(alloc, settings, chunks) {
-            Err(_) => Err(Memory),
-            Ok(strip) => Ok(Track {
-                strip,
-                gain: Gain::new(settings.wet),
-                asker: None,
-            }),
-        }
+        Ok(Track {
+            strip: Strip::new(alloc, settings, chunks)?,
+            gain: Gain::new(settings.wet),
+            asker: None,
+        })
     }
 
     /// A new track begins with this list, of 1 to 16777216 frames, and this cycle in frames. There

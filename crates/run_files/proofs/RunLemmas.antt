@@ -14,8 +14,8 @@ use Rattle.session_file.specs.Outcomes.{SaysOf}
 use Rattle.session_file.specs.declared.loading.LoadFault.{LoadFault}
 use Rattle.session_file.specs.declared.loading.LoadFault.TheVariants.{File as BadFile, Read as Unread, Memory as NoMemory}
 use Rattle.run_files.specs.declared.run.RunFiles.{RunFiles}
-use Rattle.run_files.specs.declared.run.RunFault.{RunFault}
-use Rattle.run_files.specs.declared.run.RunFault.TheVariants.{File, Read, Memory, Limit}
+use Rattle.run_files.specs.declared.run.FilesFault.{FilesFault}
+use Rattle.run_files.specs.declared.run.FilesFault.TheVariants.{File, Read, Memory, Limit}
 use Rattle.run_files.specs.Readings.{told_of, is_unread, IsFaultOf, Judges, ReadsRun}
 use Rattle.sl_ports.specs.Files.{Files}
 use Rattle.wav_pcm.specs.Reading.{Spelling}
@@ -23,7 +23,7 @@ use Rattle.session_file.proofs.SessionLemmas.{settings_parts}
 use Rattle.run_files.specs.Named.{Named, IsNamed}
 use Rattle.run_files.specs.OneFile.{HoldsWav, LacksWav, HoldsJournal, LacksJournal}
 use Rattle.run_files.specs.RunLimits.{IsWithin, IsBeyond, too_long, too_few_chunks}
-use Rattle.run_files.specs.AllFiles.{Told, Begins, IsBadBeginning, HoldsRun, IsRunOf, ExceedsLimit, FirstBad, bad_input, bad_beginning, bad_journal}
+use Rattle.run_files.specs.AllFiles.{Contents, Begins, IsBadBeginning, HoldsRun, IsRunOf, ExceedsLimit, FirstBad, bad_input, bad_beginning, bad_journal}
 use Rattle.run_files.proofs.FileLemmas.{one_input, input_or_not, one_input_fault, one_journal_file, journal_or_not, one_journal_fault}
 use Rattle.run_files.proofs.PartLemmas.{one_session, loaded_or_bad, one_bad_file}
 
@@ -34,7 +34,7 @@ strips_in_range s valid = (settings_parts s valid).strips
 -- what is judged was read
 pub judged_reads :
     {P : Type 0} (k : Keeper P) (old new : P) (files : RunFiles) (chunks : ℕ)
-    (r : Result RunFiles RunFault) → OnlyReads k old new false
+    (r : Result RunFiles FilesFault) → OnlyReads k old new false
     → Judges files chunks r → OnlyReads k old new (is_unread r)
 judged_reads k old new files chunks (Ok f) reads judged = reads
 judged_reads k old new files chunks (Err (File at kind line)) reads judged = absurd judged
@@ -43,7 +43,7 @@ judged_reads k old new files chunks (Err Memory) reads judged = absurd judged
 judged_reads k old new files chunks (Err Limit) reads judged = reads
 
 pub judged_value :
-    (files : Option Files) (n : Named) (f : RunFiles) (r : Result RunFiles RunFault) →
+    (files : Option Files) (n : Named) (f : RunFiles) (r : Result RunFiles FilesFault) →
     HoldsRun files n (told_of f) → Judges f n.chunks r → ReadsRun files n r
 judged_value files n f (Ok g) holds judged =
     subst (λ (h : RunFiles). IsRunOf files n (told_of h)) (sym judged.0)
@@ -55,7 +55,7 @@ judged_value files n f (Err Limit) holds judged =
     record { told = told_of f; holds = holds; beyond = judged }
 
 pub judged_entries :
-    (files : Option Files) (n : Named) (f : RunFiles) (r : Result RunFiles RunFault) →
+    (files : Option Files) (n : Named) (f : RunFiles) (r : Result RunFiles FilesFault) →
     HoldsRun files n (told_of f) → Judges f n.chunks r
     → IfOk r (λ g. AreOfJournal (length g.settings.strips) g.entries)
 judged_entries files n f (Ok g) holds judged =
@@ -65,26 +65,26 @@ judged_entries files n f (Err fault) holds judged = tt
 
 -- a fault of reading is handed on
 pub fault_reads :
-    {P : Type 0} (k : Keeper P) (old new : P) (fault : LoadFault) (told : RunFault) →
+    {P : Type 0} (k : Keeper P) (old new : P) (fault : LoadFault) (told : FilesFault) →
     OnlyReads k old new (is_unloaded {A = RunFiles} (Err fault))
     → IsFaultOf fault told → OnlyReads k old new (is_unread {A = RunFiles} (Err told))
 fault_reads k old new (BadFile at kind line) told reads is =
-    subst (λ (t : RunFault). OnlyReads k old new (is_unread {A = RunFiles} (Err t))) (sym is) reads
+    subst (λ (t : FilesFault). OnlyReads k old new (is_unread {A = RunFiles} (Err t))) (sym is) reads
 fault_reads k old new Unread told reads is =
-    subst (λ (t : RunFault). OnlyReads k old new (is_unread {A = RunFiles} (Err t))) (sym is) reads
+    subst (λ (t : FilesFault). OnlyReads k old new (is_unread {A = RunFiles} (Err t))) (sym is) reads
 fault_reads k old new NoMemory told reads is =
-    subst (λ (t : RunFault). OnlyReads k old new (is_unread {A = RunFiles} (Err t))) (sym is) reads
+    subst (λ (t : FilesFault). OnlyReads k old new (is_unread {A = RunFiles} (Err t))) (sym is) reads
 
 pub fault_value :
-    (files : Option Files) (n : Named) (fault : LoadFault) (told : RunFault) →
+    (files : Option Files) (n : Named) (fault : LoadFault) (told : FilesFault) →
     SaysOf (FirstBad files n) fault → IsFaultOf fault told
     → ReadsRun files n (Err told)
 fault_value files n (BadFile at kind line) told says is =
-    subst (λ (t : RunFault). ReadsRun files n (Err t)) (sym is) says
+    subst (λ (t : FilesFault). ReadsRun files n (Err t)) (sym is) says
 fault_value files n Unread told says is =
-    subst (λ (t : RunFault). ReadsRun files n (Err t)) (sym is) tt
+    subst (λ (t : FilesFault). ReadsRun files n (Err t)) (sym is) tt
 fault_value files n NoMemory told says is =
-    subst (λ (t : RunFault). ReadsRun files n (Err t)) (sym is) tt
+    subst (λ (t : FilesFault). ReadsRun files n (Err t)) (sym is) tt
 
 -- so many loops are at most 16
 pub few_loops : (loops : ℕ) → IsTrue (is_loop_count loops) → loops ≤ 16
@@ -151,7 +151,7 @@ one_start files n p q xs ys s t lists others input input_too begins begins_too =
     begins_too
 
 -- what good files tell is one
-pub one_run : (files : Files) (n : Named) (t u : Told) → IsNamed n → HoldsRun (Some files) n t →
+pub one_run : (files : Files) (n : Named) (t u : Contents) → IsNamed n → HoldsRun (Some files) n t →
     HoldsRun (Some files) n u → t ≡ u
 one_run files n t u named first second =
     let input = one_input files n.input t.spelling u.spelling t.frames u.frames first.input
@@ -174,7 +174,7 @@ one_run files n t u named first second =
     }
 
 -- good files have no bad one among them
-pub run_or_bad : (files : Files) (n : Named) (t : Told) (name : List ℕ) (kind line : ℕ) →
+pub run_or_bad : (files : Files) (n : Named) (t : Contents) (name : List ℕ) (kind line : ℕ) →
     IsNamed n → HoldsRun (Some files) n t → FirstBad (Some files) n name kind line → ⊥
 run_or_bad files n t name kind line named holds (bad_input first) =
     input_or_not files n.input t.spelling t.frames kind holds.input first.lacks
@@ -251,9 +251,9 @@ within_or_beyond chunks count lists within (too_long more) = let most = within.f
 within_or_beyond chunks count lists within (too_few_chunks more) = let most = within.chunks in
     absurd (omega (arith, most, more))
 
-pub run_or_limit : (files : Files) (n : Named) (t : Told) → IsNamed n → IsRunOf (Some files) n t →
+pub run_or_limit : (files : Files) (n : Named) (t : Contents) → IsNamed n → IsRunOf (Some files) n t →
     ExceedsLimit (Some files) n → ⊥
 run_or_limit files n t named is beyond =
     let same = one_run files n beyond.told t named beyond.holds is.holds in
     within_or_beyond n.chunks (length t.frames) t.lists is.within
-    (subst (λ (u : Told). IsBeyond n.chunks (length u.frames) u.lists) same beyond.beyond)
+    (subst (λ (u : Contents). IsBeyond n.chunks (length u.frames) u.lists) same beyond.beyond)

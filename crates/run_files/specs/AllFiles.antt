@@ -16,7 +16,7 @@ use Rattle.run_files.specs.OneFile.{HoldsWav, HoldsJournal, IsBadInput, IsBadJou
 use Rattle.run_files.specs.RunLimits.{IsWithin, IsBeyond}
 
 -- what the files of a run tell
-pub record Told : Type 0 where
+pub record Contents : Type 0 where
   pub spelling : Spelling
   pub frames : List Sound
   pub settings : LooperSettings
@@ -37,21 +37,21 @@ IsBadBeginning files None name kind line = ⊥
 IsBadBeginning files (Some session) name kind line = FirstBadFile files session name kind line
 
 -- all files are good, and this is what they tell
-pub record HoldsRun (files : Option Files) (n : Named) (t : Told) : Type 0 where
+pub record HoldsRun (files : Option Files) (n : Named) (t : Contents) : Type 0 where
   pub input : HoldsWav files n.input t.spelling t.frames
   pub begins : Begins files n.session t.spelling.rate n.loops t.settings t.lists
   pub journal : HoldsJournal files n.journal (length t.settings.strips) t.entries
 
 -- all files are good, and what they tell is within the limits
-pub record IsRunOf (files : Option Files) (n : Named) (t : Told) : Type 0 where
+pub record IsRunOf (files : Option Files) (n : Named) (t : Contents) : Type 0 where
   pub holds : HoldsRun files n t
   pub within : IsWithin n.chunks (length t.frames) t.lists
 
 -- all files are good, and a limit is exceeded
 pub record ExceedsLimit (files : Option Files) (n : Named) : Type 0 where
-  pub told : Told
-  pub holds : HoldsRun files n told
-  pub beyond : IsBeyond n.chunks (length told.frames) told.lists
+  pub contents : Contents
+  pub holds : HoldsRun files n contents
+  pub beyond : IsBeyond n.chunks (length contents.frames) contents.lists
 
 -- the first bad file of a run: all before it are good
 pub data FirstBad (files : Option Files) (n : Named) (name : List ℕ) (kind line : ℕ) : Type 0 where

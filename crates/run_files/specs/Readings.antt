@@ -22,13 +22,13 @@ use Rattle.wav_pcm.specs.Inputs.{InputOf, spelling_of_input}
 use Rattle.run_files.specs.Named.{Named}
 use Rattle.run_files.specs.OneFile.{HoldsWav, HoldsJournal, IsBadInput, IsBadJournal}
 use Rattle.run_files.specs.RunLimits.{IsWithin, IsBeyond}
-use Rattle.run_files.specs.AllFiles.{Told, Begins, IsBadBeginning, HoldsRun, IsRunOf, ExceedsLimit, FirstBad}
+use Rattle.run_files.specs.AllFiles.{Contents, Begins, IsBadBeginning, HoldsRun, IsRunOf, ExceedsLimit, FirstBad}
 use Rattle.run_files.specs.declared.run.RunFiles.{RunFiles}
-use Rattle.run_files.specs.declared.run.RunFault.{RunFault}
-use Rattle.run_files.specs.declared.run.RunFault.TheVariants.{File, Read, Memory, Limit}
+use Rattle.run_files.specs.declared.run.FilesFault.{FilesFault}
+use Rattle.run_files.specs.declared.run.FilesFault.TheVariants.{File, Read, Memory, Limit}
 
 -- what was read, as what the files tell
-abbrev pub told_of : RunFiles → Told
+abbrev pub told_of : RunFiles → Contents
 told_of f =
     record {
       spelling = spelling_of_input f.input;
@@ -39,7 +39,7 @@ told_of f =
     }
 
 -- a reading failed
-abbrev pub is_unread : {A : Type 0} → Result A RunFault → Bool
+abbrev pub is_unread : {A : Type 0} → Result A FilesFault → Bool
 is_unread (Ok _) = false
 is_unread (Err (File _ _ _)) = false
 is_unread (Err Read) = true
@@ -83,13 +83,13 @@ ReadsAll files n (Ok f) = HoldsRun files n (told_of f)
 ReadsAll files n (Err fault) = SaysOf (FirstBad files n) fault
 
 -- a fault of reading, as the fault of the run
-abbrev pub IsFaultOf : LoadFault → RunFault → Type 0
+abbrev pub IsFaultOf : LoadFault → FilesFault → Type 0
 IsFaultOf (BadFile name kind line) told = told ≡ File name kind line
 IsFaultOf Unread told = told ≡ Read
 IsFaultOf NoMemory told = told ≡ Memory
 
 -- what was read is within the limits, where there are so many chunks, or it isn't
-abbrev pub Judges : RunFiles → ℕ → Result RunFiles RunFault → Type 0
+abbrev pub Judges : RunFiles → ℕ → Result RunFiles FilesFault → Type 0
 Judges files chunks (Ok f) = (f ≡ files) × IsWithin chunks (length files.input.frames) files.initial
 Judges files chunks (Err (File name kind line)) = ⊥
 Judges files chunks (Err Read) = ⊥
@@ -98,7 +98,7 @@ Judges files chunks (Err Limit) = IsBeyond chunks (length files.input.frames) fi
 
 -- what was read is the run of these files; or their first bad file; or all are good and a limit is
 -- exceeded. A failed reading and want of memory say nothing
-abbrev pub ReadsRun : Option Files → Named → Result RunFiles RunFault → Type 0
+abbrev pub ReadsRun : Option Files → Named → Result RunFiles FilesFault → Type 0
 ReadsRun files n (Ok f) = IsRunOf files n (told_of f)
 ReadsRun files n (Err (File name kind line)) = FirstBad files n name kind line
 ReadsRun files n (Err Read) = ⊤

@@ -24,5 +24,5 @@ mod sources;
 mod tests;
 
 pub use laws::{a_run_has_one_first_bad_file, a_run_has_one_reading, a_run_is_read_or_refused};
-pub use run::{RunFault, RunFiles, read_run};
+pub use run::{FilesFault, RunFiles, read_run};
 pub use sources::Sources;

@@ -32,7 +32,7 @@ pub struct RunFiles {
 
 /// Why a run isn't read.
 #[derive(Drop)]
-pub enum RunFault {
+pub enum FilesFault {
     /// The first bad file: its name, the number of what is wrong (0 missing, a text's kind, a WAV
     /// file's fault, 8 another WAV file than the session says) and the line in the text, 0 for a
     /// WAV file.
@@ -46,13 +46,13 @@ pub enum RunFault {
 }
 
 /// A fault of reading, as the fault of the run.
-fn fault_of(fault: LoadFault) -> RunFault
+fn fault_of(fault: LoadFault) -> FilesFault
     ensures { IsFaultOf fault result }
 {
     match fault {
-        LoadFault::File(name, kind, line) => RunFault::File(name, kind, line),
-        LoadFault::Read => RunFault::Read,
-        LoadFault::Memory => RunFault::Memory,
+        LoadFault::File(name, kind, line) => FilesFault::File(name, kind, line),
+        LoadFault::Read => FilesFault::Read,
+        LoadFault::Memory => FilesFault::Memory,
     }
 }
 
@@ -86,17 +86,17 @@ fn read_all<P: Keeper>(
 
 /// What was read, where it is within the limits.
 #[tactic(auto, using(crate::proofs::RunLemmas::strips_in_range))]
-fn judge(files: RunFiles, chunks: u32) -> Result<RunFiles, RunFault>
+fn judge(files: RunFiles, chunks: u32) -> Result<RunFiles, FilesFault>
     requires { AreLists files.settings.strips files.initial }
     ensures value { Judges files chunks result }
     ensures begins { IfOk result (λ f. IsBeginning f.settings chunks f.initial) }
 {
     let _loops = files.settings.loop_count();
     if files.input.len() > MAX_FILE_FRAMES {
-        return Err(RunFault::Limit);
+        return Err(FilesFault::Limit);
     }
     if chunks < chunks_needed(files.settings.strips.as_slice(), files.initial.as_slice()) {
-        return Err(RunFault::Limit);
+        return Err(FilesFault::Limit);
     }
     Ok(files)
 }
@@ -108,7 +108,7 @@ pub fn read_run<P: Keeper>(
     alloc: Global,
     keeper: &mut P,
     sources: &Sources,
-) -> Result<RunFiles, RunFault>
+) -> Result<RunFiles, FilesFault>
     ensures reads { OnlyReads P.Keeper keeper.old keeper.new (is_unread result) }
     ensures value { ReadsRun (P.files keeper.old) sources.now result }
     ensures begins { IfOk result (λ f. IsBeginning f.settings sources.now.chunks f.initial) }

@@ -95,12 +95,12 @@ fn from_nothing() -> Result<Sources, Fail> {
 }
 
 /// The file that a fault names, with its number and line.
-fn named(fault: RunFault) -> Option<(Name, u8, u32)> {
+fn named(fault: FilesFault) -> Option<(Name, u8, u32)> {
     match fault {
-        RunFault::File(name, kind, line) => Some((name, kind, line)),
-        RunFault::Read => None,
-        RunFault::Memory => None,
-        RunFault::Limit => None,
+        FilesFault::File(name, kind, line) => Some((name, kind, line)),
+        FilesFault::Read => None,
+        FilesFault::Memory => None,
+        FilesFault::Limit => None,
     }
 }
 
@@ -109,7 +109,7 @@ fn is_named(name: &Name, text: &str) -> bool {
 }
 
 /// Whether this is the bad file that was told.
-fn is_told(answer: Result<RunFiles, RunFault>, text: &str, kind: u8, line: u32) -> bool {
+fn is_told(answer: Result<RunFiles, FilesFault>, text: &str, kind: u8, line: u32) -> bool {
     let Err(fault) = answer else {
         return false;
     };
@@ -178,7 +178,7 @@ fn the_first_bad_file_is_told_by_the_order_of_reading(rt: HostRuntime) -> Result
     assert!(rt; is_told(told, "journal.txt", 3, 2));
     put(alloc, &mut keeper, "journal.txt", JOURNAL)?;
     let told = read_run(alloc, &mut keeper, &sources);
-    assert!(rt; matches!(told, Err(RunFault::Limit)), "a chunk is needed");
+    assert!(rt; matches!(told, Err(FilesFault::Limit)), "a chunk is needed");
     Ok(())
 }
 
@@ -188,7 +188,7 @@ fn a_failed_reading_is_told_as_one(rt: HostRuntime) -> Result<(), Fail> {
         let mut keeper = keeper(rt.alloc(), &[failing])?;
         put_all(rt.alloc(), &mut keeper)?;
         let told = read_run(rt.alloc(), &mut keeper, &from_set(1)?);
-        assert!(rt; matches!(told, Err(RunFault::Read)));
+        assert!(rt; matches!(told, Err(FilesFault::Read)));
     }
     Ok(())
 }

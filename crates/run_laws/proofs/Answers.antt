@@ -4,3 +4,4 @@ pub mod Entries
 pub mod Runs
 pub mod Gets
 pub mod Once
+pub mod Exact

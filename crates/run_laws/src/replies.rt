@@ -1,6 +1,6 @@
 //! A run's output is as long as its input, and its replies answer its gets and saves.
 
-ghost use Rattle.std.specs.Prelude.{◌≡◌, ℕ, ◌+◌, ◌≤◌, Bool, List, [], ◌∷◌, ◌++◌, length, map, filter, All, Contains, count_by, option_to_list, IsTrue};
+ghost use Rattle.std.specs.Prelude.{◌≡◌, ℕ, ◌+◌, ◌≤◌, Bool, List, [], ◌∷◌, ◌++◌, length, map, filter, All, Contains, count_by, Some, option_to_list, IsTrue};
 ghost use Rattle.sl_base.specs.Sounds.{Sound};
 ghost use Rattle.sl_commands.specs.declared.Entry.{Entry};
 ghost use Rattle.sl_commands.specs.Entries.{entries_of, FramesNeverFall, are_stamped};
@@ -9,8 +9,10 @@ ghost use Rattle.looper_rules.specs.Looper.{Looper};
 ghost use Rattle.looper_rules.specs.Entries.{reply};
 ghost use Rattle.looper_rules.specs.Run.{begun, start, run};
 ghost use Rattle.looper_rules.specs.Cuts.{run_from};
+ghost use Rattle.looper_rules.specs.Reached.{IsBeginning};
+ghost use Rattle.looper_rules.specs.Unanswered.{unanswered};
 ghost use Rattle.run_laws.specs.Places.{run_before, met, run_behind, ComesWithEntry};
-ghost use Rattle.run_laws.specs.Questions.{Question, questions, answered, AnswersInTime, is_of, is_get, valid_ones};
+ghost use Rattle.run_laws.specs.Questions.{Question, question, questions, answered, AnswersInTime, is_of, is_get, valid_ones};
 ghost use Rattle.looper_laws.specs.Selecting.{SelectsALoop};
 
 /// One frame comes out for each that goes in, and a run keeps its loops.
@@ -86,4 +88,23 @@ pub fn a_get_or_a_save_is_answered_once()
         (es : List Entry) → (input : List Sound) → (test : Question → Bool) →
         count_by test (map answered (run es input (start settings chunks initial)).replies)
         ≤ count_by test (questions es) }
+{}
+
+/// In a run in which no save is left unanswered, each valid get and each valid save has its one
+/// reply: as many replies pass a test of what they answer as valid gets and saves do.
+pub fn each_is_answered_once_where_no_save_is_unanswered()
+    ensures counted { (settings : LooperSettings) → (chunks : ℕ) → (initial : List (List Sound)) →
+        (es : List Entry) → (input : List Sound) → (test : Question → Bool) →
+        IsBeginning settings chunks initial →
+        let first = start settings chunks initial in
+        unanswered es input first ≡ [] →
+        count_by test (map answered (run es input first).replies)
+        ≡ count_by test (questions (valid_ones (length settings.strips) es)) }
+    ensures once { (settings : LooperSettings) → (chunks : ℕ) → (initial : List (List Sound)) →
+        (es : List Entry) → (input : List Sound) → (e : Entry) → (q : Question) →
+        IsBeginning settings chunks initial →
+        let first = start settings chunks initial in
+        unanswered es input first ≡ [] → IsTrue (are_stamped es) →
+        Contains (valid_ones (length settings.strips) es) e → question e ≡ Some q →
+        count_by (is_of e.sender e.seq) (map answered (run es input first).replies) ≡ 1 }
 {}

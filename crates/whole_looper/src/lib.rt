@@ -19,15 +19,15 @@
 
 mod applied;
 mod apply;
+mod fault;
 mod load;
 mod looper;
 mod mix;
-mod refused;
 mod save;
 mod saved;
 #[cfg(test)]
 mod tests;
 
 pub use applied::Applied;
+pub use fault::BeginFault;
 pub use looper::Looper;
-pub use refused::Refused;

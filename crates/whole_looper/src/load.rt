@@ -5,10 +5,10 @@ ghost use Rattle.sl_base.specs.Limits.{max_chunks};
 ghost use Rattle.looper_rules.specs.Room.{used};
 ghost use Rattle.looper_rules.specs.Run.{start};
 ghost use Rattle.looper_rules.specs.Reached.{AreLists};
-ghost use Rattle.whole_looper.specs.declared.refused.Refused.TheVariants as Refused;
+ghost use Rattle.whole_looper.specs.declared.fault.BeginFault.TheVariants as BeginFault;
 
 use crate::looper::{Buffers, Looper};
-use crate::refused::Refused;
+use crate::fault::BeginFault;
 use looper_tracks::{Tracks, chunks_needed};
 use mixer_fades::Gain;
 use sl_base::{Frames, Memory};
@@ -52,18 +52,15 @@ impl Looper {
         settings: &Settings,
         chunks: u32,
         initial: &[Frames],
-    ) -> Result<Looper, Refused>
+    ) -> Result<Looper, BeginFault>
         requires chunks { chunks ≤ max_chunks }
         requires lists { AreLists settings.now.strips initial.now }
         ensures value { IfOk result (λ l. l ≡ start settings.now chunks initial.now) }
-        ensures limit { IsErrOf result Refused.Limit ↔ (chunks < used (map length initial.now)) }
+        ensures limit { IsErrOf result BeginFault.Limit ↔ (chunks < used (map length initial.now)) }
     {
         if chunks < chunks_needed(settings.strips.as_slice(), initial) {
-            return Err(Refused::Limit);
+            return Err(BeginFault::Limit);
         }
-        match Looper::of(alloc, settings, chunks, initial) {
-            Err(_) => Err(Refused::Memory),
-            Ok(looper) => Ok(looper),
-        }
+        Ok(Looper::of(alloc, settings, chunks, initial)?)
     }
 }

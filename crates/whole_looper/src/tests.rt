@@ -2,7 +2,7 @@
 
 ghost use Rattle.std.specs.Prelude.{◌<◌, length};
 
-use crate::{Looper, Refused};
+use crate::{BeginFault, Looper};
 use sl_base::{Frame, Frames, Name, widen};
 use sl_commands::{
     Command, Control, Globals, Initial, Settings, StripSettings, Strips, Target, Verb,
@@ -83,7 +83,7 @@ fn a_list_needs_its_chunks(rt: HostRuntime) -> Result<(), Fail> {
         .push(Frames::of(vec![in alloc; mono(7); 1]?))
         .map_err(|_| "memory")?;
     match Looper::new(alloc, &settings, 0, initial.as_slice()) {
-        Err(Refused::Limit) => {}
+        Err(BeginFault::Limit) => {}
         _ => return Err("limit".into()),
     }
     let mut looper = Looper::new(alloc, &settings, 1, initial.as_slice()).map_err(|_| "memory")?;

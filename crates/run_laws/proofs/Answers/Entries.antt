@@ -16,7 +16,7 @@ use Rattle.looper_laws.proofs.Kept.Askers.{askers_of, at_target-same, at_index-p
 use Rattle.run_laws.proofs.Answers.Pending.{asked_as, of_loop, of_session, one, pending, pending-put, pending-put_all, pending-without, pending-without_all, AllPending, all-put, all-put_all, all-ended, all-without, all-without_all, all-running}
 
 -- the answer to a save is to its asker's question
-answered-outcome : (index : ℤ) (what : What) (outcome : ℕ) (o : Option Asker) →
+pub answered-outcome : (index : ℤ) (what : What) (outcome : ℕ) (o : Option Asker) →
     option_map answered (option_map (outcome_for index what outcome) o) ≡ asked_as what o
 answered-outcome index what outcome None = refl
 answered-outcome index what outcome (Some asker) = refl
@@ -67,7 +67,7 @@ module _ (test : Question → Bool) where
       omega arith
   release-count Selected outcome l = omega arith
 
-  performed-count : (c : Command) (frame : ℕ) (e : Entry) (l : Looper) →
+  pub performed-count : (c : Command) (frame : ℕ) (e : Entry) (l : Looper) →
       one test (option_map answered (reply_of c e l))
       + pending test (askers_of (performed c frame e l).tracks) ≤ pending test
       (askers_of l.tracks) + one test (option_map (question_for e) (asked_for c))

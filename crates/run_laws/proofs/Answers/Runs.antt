@@ -58,7 +58,7 @@ module _ (test : Question → Bool) where
   count-one : (q : Question) → count_by test (q ∷ []) ≡ one test (Some q)
   count-one q = omega arith
 
-  asked-append : (xs ys : List Entry) → asked test (xs ++ ys) ≡ asked test xs + asked test ys
+  pub asked-append : (xs ys : List Entry) → asked test (xs ++ ys) ≡ asked test xs + asked test ys
   asked-append xs ys =
       ap (count_by test) (filter_map-append question xs ys)
       ∙ count-append (questions xs) (questions ys)
@@ -73,17 +73,17 @@ module _ (test : Question → Bool) where
       by_question (Some q) =
           count-append (q ∷ []) (questions es) ∙ ap (λ n. n + asked test es) (count-one q)
 
-  told-append : (xs ys : List Reply) → told test (xs ++ ys) ≡ told test xs + told test ys
+  pub told-append : (xs ys : List Reply) → told test (xs ++ ys) ≡ told test xs + told test ys
   told-append xs ys =
       ap (count_by test) (map-append answered xs ys)
       ∙ count-append (map answered xs) (map answered ys)
 
-  told-option : (o : Option Reply) → told test (option_to_list o) ≡ one test (option_map answered o)
+  pub told-option : (o : Option Reply) → told test (option_to_list o) ≡ one test (option_map answered o)
   told-option None = refl
   told-option (Some r) = count-one (answered r)
 
   -- the saves of this looper that run
-  abbrev running_of : Looper → ℕ
+  abbrev pub running_of : Looper → ℕ
   running_of l = pending test (askers_of l.tracks)
 
   entered-count : (frame : ℕ) (es : List Entry) (l : Looper) →
@@ -125,7 +125,7 @@ module _ (test : Question → Bool) where
       let rest = entered-count (length input) first.left first.looper in
       omega arith
 
-  first-pending : (strips : List StripSettings) (lists : List (List Sound)) →
+  pub first-pending : (strips : List StripSettings) (lists : List (List Sound)) →
       pending test (askers_of (first_tracks strips lists)) ≡ 0
   first-pending [] lists = refl
   first-pending (s ∷ ss) [] = let rest = first-pending ss [] in omega arith

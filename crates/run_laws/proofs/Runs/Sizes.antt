@@ -194,7 +194,7 @@ run-has_loops n es input l has =
     entered-has_loops n (length input) first.left first.looper (begun-has_loops n 0 es input l has)
 
 -- a run begins with as many loops as its settings have
-length-first_tracks : (strips : List StripSettings) (lists : List (List Sound)) →
+pub length-first_tracks : (strips : List StripSettings) (lists : List (List Sound)) →
     length (first_tracks strips lists) ≡ length strips
 length-first_tracks [] lists = refl
 length-first_tracks (s ∷ ss) [] = ap suc (length-first_tracks ss [])

@@ -1,6 +1,6 @@
 -- The pins that stand are those of the saves that no release has answered: each entry and each
 -- frame keeps it.
-use Rattle.std.proofs.Common.{◌≡◌, ℕ, zero, suc, ◌+◌, Bool, true, false, ◌||◌, List, [], ◌∷◌, ◌++◌, map, Option, Some, None, is_some, slice_get, option_map, option_to_list, refl, sym, ap, ap₂, ◌∙◌, subst, append-nil}
+use Rattle.std.proofs.Common.{◌≡◌, ℕ, zero, suc, ◌+◌, Bool, true, false, ◌||◌, List, [], ◌∷◌, ◌++◌, length, map, Option, Some, None, is_some, slice_get, option_map, option_to_list, refl, sym, ap, ap₂, ◌∙◌, subst, append-nil}
 use Rattle.std.specs.Prelude.{IfSome, ◌==◌, if◌then◌else◌}
 use Rattle.std.specs.List.{AllByRecursion}
 use Rattle.std.specs.Option.{option_and_then}
@@ -21,13 +21,15 @@ use Rattle.looper_rules.specs.Looper.{Asker, Track, Looper, swept, itself, at_in
 use Rattle.looper_rules.specs.Saves.{Save, list_on, pinned_for, is_pinned, loop_refusal, save_refusal, any_pinned, loop_asker, session_asker, freed_if, loop_released, session_released}
 use Rattle.looper_rules.specs.Entries.{is_taken, sets, applied, performed, asker_of, refusal_at, track_of, saves_loop, saves_session, releases, loop_save, session_save, unless_refused, save_of}
 use Rattle.looper_rules.specs.Frame.{at_boundary, at_boundaries, played_on, played, framed_from, framed}
-use Rattle.looper_rules.specs.Run.{first_tracks, entered, due, later, begun}
-use Rattle.looper_rules.specs.Unanswered.{still_unanswered, unanswered_after, unanswered_entered, unanswered_begun, Hold, list_in, hold_on, holds_of, HoldPins}
+use Rattle.looper_rules.specs.Run.{first_tracks, start, entered, due, later, begun, run}
+use Rattle.looper_rules.specs.Unanswered.{still_unanswered, unanswered_after, unanswered_entered, unanswered_begun, unanswered, Hold, list_in, hold_on, holds_of, HoldPins}
 use Rattle.looper_rules.specs.States.{IsTrack}
-use Rattle.looper_rules.specs.Reached.{KeepsLooper}
+use Rattle.looper_rules.specs.Reached.{KeepsLooper, IsBeginning}
+use Rattle.sl_commands.specs.Settings.{LooperSettings}
 use Rattle.run_laws.proofs.Saves.Loops.{given_pin, pressed_pin, released_pin, ready_pin, after_pin}
 use Rattle.run_laws.proofs.Saves.Pins.{LeavesPins, boundary-pin}
 use Rattle.run_laws.proofs.Saves.Holds.{changed, IsFree, AreFree, gone, loop_gone, session_gone, kept_by, all_put, loop_pinned, session_pinned, loop_released_holds, session_released_holds}
+use Rattle.looper_laws.proofs.Kept.Starts.{begins, runs_begun}
 use Rattle.looper_laws.proofs.Kept.Runs.{entry_keeps, entered_keeps, frame_keeps}
 
 -- all holds of some tracks
@@ -126,7 +128,7 @@ track_at frame zero (u ∷ us) t all there = let same : u ≡ t = cc in
     subst (λ v. IsTrack frame v) same all.0
 track_at frame (suc k) (u ∷ us) t all there = track_at frame k us t all.1 there
 
-none_there : (a : Option Asker) → is_some a ≡ false → a ≡ None
+pub none_there : (a : Option Asker) → is_some a ≡ false → a ≡ None
 none_there None is = refl
 none_there (Some asker) is = absurd (cc)
 
@@ -193,7 +195,7 @@ saves_loop-holds frame target name e l saves (Some n) refused tracks h =
     no_more saves (holds_of l) h
 
 -- a save of the session
-first_unpinned : (pin rest : Bool) → (pin || rest) ≡ false → (pin ≡ false) × (rest ≡ false)
+pub first_unpinned : (pin rest : Bool) → (pin || rest) ≡ false → (pin ≡ false) × (rest ≡ false)
 first_unpinned true rest none = absurd (cc)
 first_unpinned false rest none = (refl, none)
 
@@ -322,3 +324,16 @@ first-owned (s ∷ ss) (list ∷ lists) (suc k) = first-owned ss lists k
 pub first-holds : (strips : List StripSettings) (lists : List (List Sound)) →
     HoldPins [] (holds_on (first_tracks strips lists))
 first-holds strips lists = record { held = tt; owned = λ k. first-owned strips lists k }
+
+-- in a run from its start
+pub run-holds : (settings : LooperSettings) (chunks : ℕ) (lists : List (List Sound))
+    (es : List Entry) (input : List Sound) → IsBeginning settings chunks lists →
+    HoldPins (unanswered es input (start settings chunks lists))
+    (holds_of (run es input (start settings chunks lists)).looper)
+run-holds settings chunks lists es input h =
+    let l = start settings chunks lists in
+    let first = begun 0 es input l in
+    entered-holds (length input) first.left first.looper (unanswered_begun 0 es input l [])
+    (runs_begun settings chunks lists h es input)
+    (begun-holds 0 es input l [] (begins settings chunks lists h)
+    (first-holds settings.strips lists))
