@@ -14,8 +14,8 @@ use std::sync::Wait;
 use std::thread;
 use std::time::{Clock, Duration};
 
-/// How long the activity pauses where a turn found nothing to do.
-const PAUSE: Duration = Duration::from_micros(500);
+/// How many microseconds the activity pauses where a turn found nothing to do.
+const PAUSE: u64 = 500;
 
 /// A turn found nothing to do: it played no frame and moved no budget of items.
 fn is_idle(turn: &Turn) -> bool {
@@ -28,9 +28,8 @@ fn is_idle(turn: &Turn) -> bool {
 
 /// Serves the audio until it is at its end: turns, with a pause behind each that found nothing to
 /// do. No memory is taken.
-pub fn serve_audio<W: Wait, C: Clock, A: Source, O: Sink>(
-    wait: &W,
-    clock: &C,
+pub fn serve_audio<R: Wait + Clock, A: Source, O: Sink>(
+    rt: &R,
     engine: &mut Engine,
     ends: &mut AudioEnds,
     source: &mut A,
@@ -52,13 +51,13 @@ pub fn serve_audio<W: Wait, C: Clock, A: Source, O: Sink>(
           sink = record { faults = O.faults sink.new; held = O.held sink.new };
         }) result }
 {
-    'turns: for _ in wait.forever() {
-        let turn = audio_turn(wait, engine, ends, source, sink);
+    'turns: for _ in rt.forever() {
+        let turn = audio_turn(rt, engine, ends, source, sink);
         if turn.state != AudioState::More {
             return turn.state;
         }
         if is_idle(&turn) {
-            thread::sleep(clock, PAUSE);
+            thread::sleep(rt, Duration::from_micros(PAUSE));
         }
     }
     unreachable!()

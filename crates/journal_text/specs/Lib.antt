@@ -1,4 +1,3 @@
 pub mod JournalLines
 pub mod Journals
 pub mod SoFars
-pub mod Readings

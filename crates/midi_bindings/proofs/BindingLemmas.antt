@@ -13,7 +13,7 @@ use Rattle.sl_commands.specs.declared.control.Control.{Control}
 use Rattle.sl_commands.specs.declared.control.Range.{Range}
 use Rattle.sl_commands.specs.declared.control.Range.TheVariants.{ReadOnly, Between, Source, LoopIndex}
 use Rattle.sl_commands.specs.Commands.{is_target, target_number, numbered_target}
-use Rattle.sl_commands.specs.Controls.{control_row, is_of_loop, is_in_range, is_within}
+use Rattle.sl_commands.specs.Controls.{is_of_loop, is_in_range, is_within}
 use Rattle.text_lines.specs.Lines.{Lacks, words_in, line_of, end_word, IsWord}
 use Rattle.text_lines.proofs.NumeralLemmas.{decimal_has_form}
 use Rattle.text_lines.proofs.WordLemmas.{decimal_is_word, signed_is_word, printed_is_word, signed_has_form, signed_is_one, words_come_back, line_is_whole}

@@ -1,17 +1,15 @@
 -- What a binding gives at an event may be played: a sweep's value lies between its ends.
 use Rattle.std.proofs.Common.{arith, ℕ, zero, suc, ◌+◌, ◌-◌, ◌*◌, ◌/◌, ◌≤◌, ◌<◌, ◌≡◌, Bool, true, false, List, [], ◌∷◌, refl, sym, ap, ap₂, ◌∙◌, subst, Some, None, Option}
-use Rattle.std.specs.Prelude.{ℤ, pos, negsuc, neg_ℤ, ◌==◌, ◌*ℤ◌, ◌+ℤ◌, ◌-ℤ◌, int_div, IsTrue, nat_le, ◌&&◌, if◌then◌else◌}
+use Rattle.std.specs.Prelude.{ℤ, pos, negsuc, neg_ℤ, ◌==◌, ◌*ℤ◌, ◌-ℤ◌, int_div, IsTrue, nat_le, ◌&&◌, if◌then◌else◌}
 use Rattle.std.proofs.Math.Nat.{div-le_of_le-mul, mul-le-mul_left}
 use Rattle.std.proofs.lemmas.Int.{ints}
 use Rattle.std.proofs.lemmas.Bool.{and_parts, leb-true, leb-false, le-leb}
 use Rattle.std.specs.List.{AllByRecursion}
 use Rattle.sl_commands.specs.declared.command.Command.{Command}
 use Rattle.sl_commands.specs.declared.command.Command.TheVariants as commands
-use Rattle.sl_commands.specs.declared.command.Target.{Target}
 use Rattle.sl_commands.specs.declared.control.Control.{Control}
 use Rattle.sl_commands.specs.declared.control.Control.TheVariants as controls
 use Rattle.sl_commands.specs.declared.control.Range.TheVariants.{Between}
-use Rattle.sl_commands.specs.Commands.{is_target}
 use Rattle.sl_commands.specs.Controls.{is_of_loop, is_in_range, is_within}
 use Rattle.midi_reader.specs.declared.event.MidiEvent.{MidiEvent}
 use Rattle.midi_reader.specs.declared.event.MidiEvent.TheVariants as events

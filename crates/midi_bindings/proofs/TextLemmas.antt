@@ -1,12 +1,12 @@
 -- The lines of bindings, and those that may stand one behind another.
-use Rattle.std.proofs.Common.{ℕ, ◌+◌, ◌<◌, ◌≤◌, List, [], ◌∷◌, ◌++◌, length, arith, length-append}
+use Rattle.std.proofs.Common.{ℕ, ◌+◌, ◌≤◌, List, [], ◌∷◌, ◌++◌, length, arith, length-append}
 use Rattle.std.specs.Prelude.{IsTrue}
 use Rattle.std.specs.List.{AllByRecursion}
-use Rattle.sl_base.specs.Limits.{max_loops, max_binding_lines}
+use Rattle.sl_base.specs.Limits.{max_binding_lines}
 use Rattle.text_lines.specs.FirstFaults.{MayAllFollow, IsText}
 use Rattle.midi_bindings.specs.declared.binding.Binding.{Binding}
 use Rattle.midi_bindings.specs.Lines.{is_binding}
-use Rattle.midi_bindings.specs.Texts.{bindings_form, AreBindings, IsBindings}
+use Rattle.midi_bindings.specs.Texts.{bindings_form, IsBindings}
 
 abbrev AreValid : ℕ → List Binding → Type 0
 AreValid loops bindings = AllByRecursion (λ binding. IsTrue (is_binding loops binding)) bindings

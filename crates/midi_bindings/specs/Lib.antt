@@ -1,5 +1,4 @@
 pub mod Lines
 pub mod Lookups
 pub mod Texts
-pub mod Readings
 pub mod Played

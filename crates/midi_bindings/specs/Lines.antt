@@ -6,7 +6,6 @@
 use Rattle.std.specs.Prelude.{◌≡◌, ◌<◌, ◌≤◌, ◌≤ℤ◌, ℕ, ◌+◌, ℤ, pos, negsuc, ◌||◌, Bool, false, ◌&&◌, nat_lt, List, [], ◌∷◌, IsTrue, codes}
 use Rattle.std.specs.Str.{bytes_eq}
 use Rattle.std.specs.Fmt.{decimal, signed_decimal}
-use Rattle.sl_commands.specs.declared.command.Command.{Command}
 use Rattle.sl_commands.specs.declared.command.Target.{Target}
 use Rattle.sl_commands.specs.declared.control.Control.{Control}
 use Rattle.sl_commands.specs.Commands.{is_target}

@@ -1,31 +1,28 @@
-//! Reading bindings line by line.
+//! Reading bindings.
 
-ghost use Rattle.std.specs.Prelude.{◌≡◌, ◌≤◌, ◌++◌, ◌∷◌, [], ℕ, List, length, IfOk, IfErr, OnOk};
+ghost use Rattle.std.specs.Prelude.{◌≡◌, ◌≤◌, ℕ, List, IfOk, IfErr, OnOk};
 ghost use Rattle.sl_base.specs.Limits.{max_loops};
 ghost use Rattle.midi_bindings.specs.declared.binding.Binding.{Binding};
-ghost use Rattle.text_lines.specs.FirstFaults.{FirstFault, IsText, IsReason};
-ghost use Rattle.midi_bindings.specs.Texts.{bindings_form, bindings_header, IsBindings};
-ghost use Rattle.midi_bindings.specs.Readings.{IsTaken, IsRefused, IsFaultAt, IsReasonAt, DeniesAll};
+ghost use Rattle.text_lines.specs.FirstFaults.{IsReason};
+ghost use Rattle.text_lines.specs.Taking.{IsTaken, IsRefused, DeniesAll};
+ghost use Rattle.midi_bindings.specs.Texts.{bindings_form, IsBindings};
 
 use crate::bindings::Bindings;
 use crate::line::read_line;
 use sl_base::MAX_BINDING_LINES;
-use sl_commands::{ReadText, TextFault, TextKind};
+use sl_commands::{ReadText, TextKind};
 use std::alloc::Global;
-use text_lines::next_line;
+use std::marker::Model;
+use text_lines::{FormLines, Refused, read_form};
 
-/// Why a line was not taken.
-#[derive(Clone, Copy, PartialEq, Eq)]
-pub enum Refused {
-    Wrong(TextKind),
-    Memory,
-}
+/// The most lines.
+const MAX_LINES: u32 = MAX_BINDING_LINES as u32;
 
 /// Takes one line behind those so far. An error leaves them as they were.
 fn take_line(so_far: &mut Bindings, line: &[u8], loops: u8) -> Result<(), Refused>
     requires { loops ≤ max_loops }
-    ensures ok { OnOk result (IsTaken loops so_far.old line.now so_far.new) }
-    ensures wrong { IfErr result (IsRefused loops so_far.old line.now) }
+    ensures ok { OnOk result (IsTaken (bindings_form loops) so_far.old line.now so_far.new) }
+    ensures wrong { IfErr result (IsRefused (bindings_form loops) so_far.old line.now) }
 {
     if so_far.count() == MAX_LINES {
         return Err(Refused::Wrong(TextKind::TooMany));
@@ -39,51 +36,49 @@ fn take_line(so_far: &mut Bindings, line: &[u8], loops: u8) -> Result<(), Refuse
     }
 }
 
-/// The most lines.
-const MAX_LINES: u32 = MAX_BINDING_LINES as u32;
-
-/// The fault of a kind at a line.
-fn fault(line: u32, kind: TextKind) -> ReadText
-    ensures { IsFaultAt line kind result }
-{
-    ReadText::Fault(TextFault { line, kind })
+/// The bindings so far, for so many loops.
+#[derive(Drop)]
+struct BindingLines {
+    so_far: Bindings,
+    /// 16 at most.
+    loops: u8,
 }
 
-/// Why the line wasn't taken, as the answer for the whole text.
-fn reason(line: u32, refused: Refused) -> ReadText
-    ensures { IsReasonAt line refused result }
-{
-    match refused {
-        Refused::Wrong(kind) => fault(line, kind),
-        Refused::Memory => ReadText::Memory,
-    }
+impl Model for BindingLines {
+    ghost use Rattle.std.specs.Prelude.{◌≤◌, ℕ, List};
+    ghost use Rattle.sl_base.specs.Limits.{max_loops};
+    ghost use Rattle.midi_bindings.specs.declared.binding.Binding.{Binding};
+
+    ghost Value = { ℕ × List Binding };
+
+    ghost view = { λ l. (l.loops, l.so_far) };
+
+    ghost invariant = { λ l. l.loops ≤ max_loops };
 }
 
-/// What the lines behind the header say.
-fn read_lines(alloc: Global, lines: &[u8], loops: u8) -> Result<Bindings, ReadText>
-    requires { loops ≤ max_loops }
-    ensures found { IfOk result
-        (λ bindings. IsText (bindings_form loops) (bindings_header ++ (10 ∷ lines.now)) bindings) }
-    ensures fault { IfErr result
-        (IsReason (bindings_form loops) (bindings_header ++ (10 ∷ lines.now))) }
-{
-    let mut so_far = Bindings::new(alloc);
-    let mut rest = lines;
-    'lines: while let Some((line, behind)) = next_line(rest) {
-        let count = so_far.count();
-        if line == b"end".as_slice() {
-            if !behind.is_empty() {
-                return Err(fault(count + 3, TextKind::Ending));
-            }
-            return Ok(so_far);
-        }
-        match take_line(&mut so_far, line, loops) {
-            Ok(()) => {}
-            Err(refused) => return Err(reason(count + 2, refused)),
-        }
-        rest = behind;
+impl FormLines for BindingLines {
+    ghost use Rattle.midi_bindings.specs.declared.binding.Binding.{Binding};
+    ghost use Rattle.midi_bindings.specs.Texts.{bindings_form};
+
+    ghost Item = { Binding };
+
+    ghost form = { bindings_form };
+
+    ghost given = { λ l. l.0 };
+
+    ghost items = { λ l. l.1 };
+
+    fn header(&self) -> &[u8] {
+        b"looper bindings 1".as_slice()
     }
-    Err(fault(so_far.count() + 2, TextKind::Ending))
+
+    fn count(&self) -> u32 {
+        self.so_far.count()
+    }
+
+    fn take_line(&mut self, line: &[u8]) -> Result<(), Refused> {
+        take_line(&mut self.so_far, line, self.loops)
+    }
 }
 
 /// Reads bindings for so many loops, 16 at most: their lines, or the first fault. `Memory` may come
@@ -96,11 +91,12 @@ pub fn read_bindings(alloc: Global, bytes: &[u8], loops: u8) -> Result<Bindings,
     ensures fault { IfErr result (IsReason (bindings_form loops) bytes.now) }
     ensures only { IfErr result (DeniesAll (λ bindings. IsBindings loops bytes.now bindings)) }
 {
-    let Some((first, lines)) = next_line(bytes) else {
-        return Err(fault(1, TextKind::Ending));
+    let none = BindingLines {
+        so_far: Bindings::new(alloc),
+        loops,
     };
-    if first != b"looper bindings 1".as_slice() {
-        return Err(fault(1, TextKind::Header));
+    match read_form(none, bytes) {
+        Ok(lines) => Ok(lines.so_far),
+        Err(why) => Err(why),
     }
-    read_lines(alloc, lines, loops)
 }

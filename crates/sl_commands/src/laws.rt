@@ -1,8 +1,10 @@
 //! What holds of the definitions: each function's clause is a law, and its body is empty.
 
-ghost use Rattle.std.specs.Prelude.{◌≡◌, ◌≢◌, ℕ, ◌<◌, ◌&&◌, ◌+◌, pos, List, [], ◌∷◌, length, ◌++◌, ◌↔◌, IsTrue, slice_get};
+ghost use Rattle.std.specs.Prelude.{◌≡◌, ◌≢◌, ℕ, ◌<◌, ◌&&◌, ◌+◌, ◌≤◌, nat_lt, pos, List, [], ◌∷◌, length, ◌++◌, ◌↔◌, IsTrue, slice_get};
 ghost use Rattle.sl_commands.specs.Verbs.{verb_name, verb_number, verbs};
 ghost use Rattle.sl_commands.specs.Commands.{target_number, numbered_target};
+ghost use Rattle.std.specs.List.{list_all};
+ghost use Rattle.sl_commands.specs.Replies.{what_name};
 ghost use Rattle.sl_commands.specs.Controls.{control_name, is_in_range, can_be_set, default_of};
 ghost use Rattle.sl_commands.specs.Blocks.{Underway, blocks_of, place_of, save_of, may_follow, may_all_follow, IsSave};
 ghost use Rattle.sl_commands.specs.Entries.{entries_of, commands_of, are_stamped, may_be_next, IsStamped};
@@ -13,6 +15,7 @@ use crate::block::Block;
 use crate::command::{Command, Target};
 use crate::control::Control;
 use crate::entry::Entry;
+use crate::reply::What;
 use crate::settings::{Initial, Settings};
 use crate::verb::Verb;
 use sl_base::Name;
@@ -42,6 +45,12 @@ pub fn controls_begin_in_their_ranges(control: Control, loops: u8)
     requires { 0 < loops }
     ensures { IsTrue (can_be_set control) →
         IsTrue (is_in_range control (pos (default_of control)) loops) }
+{}
+
+/// The name of what is answered has at most 32 bytes, and none of them is zero.
+pub fn what_is_answered_has_a_short_name(what: What)
+    ensures short { length (what_name what) ≤ 32 }
+    ensures plain { IsTrue (list_all (nat_lt 0) (what_name what)) }
 {}
 
 /// Verbs are equal where they are the same.

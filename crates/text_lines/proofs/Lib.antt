@@ -5,5 +5,6 @@ pub mod ShapeLemmas
 pub mod WordLemmas
 pub mod ReadingLemmas
 pub mod LoopLemmas
+pub mod FormLemmas
 pub mod TableLemmas
 pub mod TargetLemmas
