@@ -6,7 +6,7 @@
 //! - `tell_over` then puts the number of frames done on the ring that another activity looks at, so
 //!   that this one knows that no turn comes any more.
 //!
-//! Begin with `serving`; the rules are "The turn of audio" and "The activities of a live session" in
+//! Begin with `serving`; the rules are "The turn of audio" and "The activity of audio" in
 //! docs/rules.md.
 #![tactic(auto)]
 

@@ -5,3 +5,4 @@ pub mod MessageLemmas
 pub mod PacketLemmas
 pub mod WritingLemmas
 pub mod WrittenLemmas
+pub mod FaultLemmas

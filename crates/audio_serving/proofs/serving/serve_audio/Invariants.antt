@@ -8,12 +8,12 @@ invariant-turns g l =
     (record {
       engine = l.fn.engine;
       ends = l.fn.ends;
-      source = g.A.seen l.fn.source;
-      sink = record { faults = g.O.faults l.fn.sink; held = g.O.held l.fn.sink };
+      source = g.A.Source.seen l.fn.source;
+      sink = record { faults = g.O.Sink.faults l.fn.sink; held = g.O.Sink.held l.fn.sink };
     })
     (record {
       engine = l.engine;
       ends = l.ends;
-      source = g.A.seen l.source;
-      sink = record { faults = g.O.faults l.sink; held = g.O.held l.sink };
+      source = g.A.Source.seen l.source;
+      sink = record { faults = g.O.Sink.faults l.sink; held = g.O.Sink.held l.sink };
     })
