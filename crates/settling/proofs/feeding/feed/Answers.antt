@@ -1,0 +1,34 @@
+use Rattle.settling.proofs.FeedLemmas.{fed_come, goes_fed, ended_outcome, ended_owed, ended_fed}
+use Rattle.settling.proofs.feeding.feed.Goals as goal
+
+pub accept-requires : goal.accept-requires
+accept-requires g c =
+    record {
+      next = fed_come c.args.engine.now c.args.saver.now.saving c.args.block.now c.requires.may;
+    }
+
+pub returns-in-Continue-clause-fed : goal.returns-in-Continue-clause-fed
+returns-in-Continue-clause-fed g c =
+    goes_fed g.P.Keeper c.args.saver.now.rate c.args.block.now c.args.engine.now
+    c.args.saver.now.saving c.accept.new.self.saving c.args.keeper.now c.accept.new.keeper
+    (g.T.Teller.told c.args.teller.now) c.in-Continue.ensures.accepted
+
+pub release-requires-clause-outcome : goal.release-requires-clause-outcome
+release-requires-clause-outcome g c =
+    ended_outcome g.P.Keeper c.args.saver.now.rate c.args.block.now c.args.saver.now.saving
+    c.accept.new.self.saving c.args.keeper.now c.accept.new.keeper c.in-Finished.field-0
+    c.in-Finished.outcome c.in-Finished.ensures.accepted
+
+pub release-requires-clause-owed : goal.release-requires-clause-owed
+release-requires-clause-owed g c =
+    ended_owed g.P.Keeper c.args.saver.now.rate c.args.block.now c.args.engine.now
+    c.args.saver.now.saving c.accept.new.self.saving c.args.keeper.now c.accept.new.keeper
+    c.in-Finished.field-0 c.in-Finished.outcome c.requires.may c.in-Finished.ensures.accepted
+
+pub returns-in-Finished-clause-fed : goal.returns-in-Finished-clause-fed
+returns-in-Finished-clause-fed g c =
+    ended_fed g.P.Keeper c.args.saver.now.rate c.args.block.now c.args.engine.now
+    c.release.new.engine c.args.saver.now.saving c.accept.new.self.saving c.args.keeper.now
+    c.accept.new.keeper c.in-Finished.field-0 c.in-Finished.outcome
+    (g.T.Teller.told c.args.teller.now) (g.T.Teller.told c.release.new.teller)
+    c.in-Finished.ensures.accepted c.release.ensures.goes
