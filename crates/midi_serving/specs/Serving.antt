@@ -1,6 +1,6 @@
 -- Serving MIDI reads bytes and has the sender hear each, in order. It reads at least once before it
--- looks for the end of the session: so a byte was read, or a read failed or gave nothing for now, or
--- the source is at its end. It ends where the session's end was told, by a number that is taken;
+-- looks for the end of the session: so a byte was read, or a read failed or gave nothing for now,
+-- or the source is at its end. It ends where the session's end was told, by a number that is taken;
 -- where the source is at its end; or with a read that failed, and then its count rose.
 -- "Serving" in docs/rules.md.
 use Rattle.std.specs.Prelude.{◌≡◌, ◌≤◌, ◌⊎◌, ℕ, true, false, List, [], ◌∷◌, ◌++◌, length}

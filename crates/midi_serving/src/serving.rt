@@ -56,8 +56,8 @@ pub fn serve_midi<M: Source, R: Wait>(
     sender: &mut MidiSender,
     over: &mut Taker<u64>,
 ) -> MidiEnd
-    ensures { MidiDid (M.seen source.old) (M.seen source.new) sender.old sender.new over.old over.new
-        result }
+    ensures { MidiDid (M.seen source.old) (M.seen source.new) sender.old sender.new over.old
+        over.new result }
 {
     let mut buf = [0; 256];
     'turns: for _ in wait.forever() {

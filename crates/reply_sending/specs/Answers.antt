@@ -1,7 +1,7 @@
 -- A reply tells its index, its name and its value, with the tags `isi`; the answer to a ping tells
--- `looper`, `1.0.0` and the number of loops, with the tags `ssi`. Each goes to a return address, on a
--- return path. A reply goes where the accepted command with its number says: one that no command of
--- OSC with a return address asked for goes nowhere.
+-- `looper`, `1.0.0` and the number of loops, with the tags `ssi`. Each goes to a return address, on
+-- a return path. A reply goes where the accepted command with its number says: one that no command
+-- of OSC with a return address asked for goes nowhere.
 -- "OSC paths" in docs/formats.md.
 use Rattle.std.specs.Prelude.{◌≡◌, ℕ, ℤ, ◌==◌, pos, if◌then◌else◌, List, [], ◌∷◌, ◌++◌, Option, Some, None, codes, slice_get}
 use Rattle.std.specs.Int.{w32, to_be_bytes, cast_unsigned}

@@ -1,6 +1,7 @@
 -- Replies and answers to pings are sent one after another, each kind in its own order. A packet
--- whose send failed is left out and counted, and nothing else is: so the packets sent are a merge of
--- both kinds but for those that were counted, and the link's count of sends rose by at least as many.
+-- whose send failed is left out and counted, and nothing else is: so the packets sent are a merge
+-- of both kinds but for those that were counted, and the link's count of sends rose by at least as
+-- many.
 -- "Serving" in docs/rules.md.
 use Rattle.std.specs.Prelude.{◌≡◌, ℕ, ◌+◌, min, max, Bool, true, false, List, [], ◌∷◌, Option}
 use Rattle.sl_base.specs.Counting.{last_count, RoseBy}

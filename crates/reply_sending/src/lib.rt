@@ -1,9 +1,10 @@
 //! Answers on their way: replies and answers to pings as messages, sent or counted.
 //!
-//! - `send_reply` sends a reply to the return address of the accepted command that asked for it, and
-//!   answers false exactly where it has none. `send_pongs` answers the pings among what came of a
-//!   packet.
-//! - A packet whose send failed is counted as not sent, in the sender's account, and nothing else is.
+//! - `send_reply` sends a reply to the return address of the accepted command that asked for it,
+//!   and answers false exactly where it has none. `send_pongs` answers the pings among what came of
+//!   a packet.
+//! - A packet whose send failed is counted as not sent, in the sender's account, and nothing else
+//!   is.
 //! - What is sent by any number of calls is a merge of replies and answers to pings but for those
 //!   counted, and the link's count of sends rose by at least as many (`Sending`).
 //! - No call takes memory.

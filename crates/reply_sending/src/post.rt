@@ -15,8 +15,8 @@ use sl_base::Addr;
 use sl_commands::Reply;
 use sl_ports::SinkAnswer;
 
-/// Where the reply to an accepted command goes. None where no command of OSC has its number, or that
-/// one has no return address.
+/// Where the reply to an accepted command goes. None where no command of OSC has its number, or
+/// that one has no return address.
 pub fn return_for<'a>(accepted: &'a [Accepted], reply: &Reply) -> Option<&'a ReturnTo>
     ensures { option_copied result ≡ return_for accepted.now reply.now }
 {
@@ -31,15 +31,16 @@ pub fn return_for<'a>(accepted: &'a [Accepted], reply: &Reply) -> Option<&'a Ret
 
 /// Sends the bytes of a packet, or counts that they weren't sent.
 fn send<L: Link>(link: &mut L, sender: &mut OscSender, to: Addr, bytes: &[u8])
-    ensures { Posted (packet to bytes.now) (L.seen link.old) (L.seen link.new) sender.old sender.new }
+    ensures { Posted (packet to bytes.now) (L.seen link.old) (L.seen link.new) sender.old
+        sender.new }
 {
     if link.send(to, bytes) == SinkAnswer::Failed {
         sender.note_unsent();
     }
 }
 
-/// Sends a reply to its return address, or counts that it wasn't sent. False exactly where it has no
-/// such address, and then nothing is done.
+/// Sends a reply to its return address, or counts that it wasn't sent. False exactly where it has
+/// no such address, and then nothing is done.
 pub fn send_reply<L: Link>(link: &mut L, sender: &mut OscSender, reply: Reply) -> bool
     ensures { PostedReply reply (L.seen link.old) (L.seen link.new) sender.old sender.new result }
 {
