@@ -22,12 +22,11 @@ use Rattle.loop_saver.proofs.PlaceLemmas.{comes_behind, follower_comes}
 use Rattle.event_rings.specs.Ends.{BothEnds, SameBothRing, TakesRest}
 use Rattle.engine_steps.specs.Engines.{EngineOf, first_of, left, next_block, block_sent, waiting}
 use Rattle.live_steps.proofs.RoomLemmas.{block_follows, all_answered}
-use Rattle.live_goes.specs.Going.{no_more, Goes}
+use Rattle.live_goes.specs.Going.{no_more}
 use Rattle.live_goes.proofs.GoLemmas.{goes_block}
-use Rattle.settling.specs.Settled.{SettledOf, settling}
 use Rattle.settling.specs.Standing.{StandsBehind, IsOwed, IsServed, MayFeed}
-use Rattle.settling.specs.Steps.{more_outcomes, GoesTold, Fed}
-use Rattle.settling.proofs.TakeLemmas.{told_none, told_then, stands_behind}
+use Rattle.settling.specs.Steps.{more_outcomes, GoesBy, FedOf, feeding, Fed}
+use Rattle.settling.proofs.TakeLemmas.{by_none, by_then, stands_behind}
 
 -- how many saves a place has behind a block
 place_ends_one : (saves : ℕ) (underway : Option Underway) (b : Block) (p : Place) →
@@ -71,6 +70,12 @@ pub come_ends : (saving : Option SavingOf) (blocks : List Block) (saves : ℕ) �
 come_ends saving blocks saves come =
     let all = place_ends blocks first_place _ come.place in omega arith
 
+-- a block that the engine sent
+block_by : (b : Block) (e next : EngineOf) → next_block e ≡ Some b → next ≡ block_sent e →
+    GoesBy (record no_more { blocks = b ∷ [] }) [] e next
+block_by b e next is now =
+    subst (λ n. GoesBy (record no_more { blocks = b ∷ [] }) [] e n) (sym now) (goes_block b e is)
+
 module _ {P : Type 0} (k : Keeper P) (rate : ℕ) where
   -- a block gives an outcome where a save ends in it
   ends_one : (b : Block) (saving after : Option SavingOf) (old new : P) (answer : Saved) →
@@ -97,35 +102,36 @@ module _ {P : Type 0} (k : Keeper P) (rate : ℕ) where
       omega arith
 
   -- no block was fed
-  pub fed_none : (s : SettledOf P) → Fed k rate [] [] s s
+  pub fed_none : (s : FedOf P) → Fed k rate [] [] [] s s
   fed_none s =
-      record { outcomes = []; keeps = (refl, refl, refl); goes = told_none s.engine s.told }
+      record { outcomes = []; keeps = (refl, refl, refl); goes = by_none s.engine }
 
   -- blocks were fed, and then others
-  pub fed_then : (bs cs gs hs : List Block) (s t u : SettledOf P) → Fed k rate bs gs s t →
-      Fed k rate cs hs t u → Fed k rate (bs ++ cs) (gs ++ hs) s u
-  fed_then bs cs gs hs s t u x y =
+  pub fed_then : (bs cs gs hs : List Block) (rs qs : List Reply) (s t u : FedOf P) →
+      Fed k rate bs gs rs s t → Fed k rate cs hs qs t u →
+      Fed k rate (bs ++ cs) (gs ++ hs) (rs ++ qs) s u
+  fed_then bs cs gs hs rs qs s t u x y =
       record {
         outcomes = x.outcomes ++ y.outcomes;
         keeps = keeps_then k rate bs cs s.saving t.saving u.saving s.keeper t.keeper u.keeper
             x.outcomes y.outcomes x.keeps y.keeps;
-        goes = told_then s.engine t.engine u.engine
+        goes = by_then s.engine t.engine u.engine
             (record no_more { saver = x.outcomes; blocks = gs })
-            (record no_more { saver = y.outcomes; blocks = hs }) s.told t.told u.told x.goes y.goes;
+            (record no_more { saver = y.outcomes; blocks = hs }) rs qs x.goes y.goes;
       }
 
   -- the saver stands behind the blocks that were fed
-  pub served_on : (bound : ℕ) (fed sent bs gs : List Block) (s t : SettledOf P) →
+  pub served_on : (bound : ℕ) (fed sent bs gs : List Block) (rs : List Reply) (s t : FedOf P) →
       IsServed s.engine s.saving fed sent → IsTrue (may_all_follow fed bs bound) →
-      Fed k rate bs gs s t → IsServed t.engine t.saving (fed ++ bs) (sent ++ gs)
-  served_on bound fed sent bs gs s t x follow f =
+      Fed k rate bs gs rs s t → IsServed t.engine t.saving (fed ++ bs) (sent ++ gs)
+  served_on bound fed sent bs gs rs s t x follow f =
       let outs = kept_ends bs s.saving t.saving s.keeper t.keeper f.outcomes f.keeps in
       let both = ends-append fed bs in
       let long = length-append x.outcomes f.outcomes in
       let each = x.each in
       record {
         outcomes = x.outcomes ++ f.outcomes;
-        stands = stands_behind s.engine t.engine x.outcomes f.outcomes sent gs s.told t.told x.stands
+        stands = stands_behind s.engine t.engine x.outcomes f.outcomes sent gs rs x.stands
             f.goes;
         each = omega arith;
         saves = x.saves + length f.outcomes;
@@ -134,14 +140,14 @@ module _ {P : Type 0} (k : Keeper P) (rate : ℕ) where
       }
 
   -- a block with which its save goes on
-  pub goes_fed : (b : Block) (e : EngineOf) (saving after : Option SavingOf) (old new : P)
-      (told : List Reply) → Accepts k rate b saving after old new Continue →
-      Fed k rate (b ∷ []) [] (settling e saving old told) (settling e after new told)
-  goes_fed b e saving after old new told a =
+  pub goes_fed : (b : Block) (e : EngineOf) (saving after : Option SavingOf) (old new : P) →
+      Accepts k rate b saving after old new Continue →
+      Fed k rate (b ∷ []) [] [] (feeding e saving old) (feeding e after new)
+  goes_fed b e saving after old new a =
       record {
         outcomes = [];
         keeps = one_kept k rate b saving after old new Continue a;
-        goes = told_none e told;
+        goes = by_none e;
       }
 
   -- a block that ends its save: its outcome is one, and is owed
@@ -168,11 +174,11 @@ module _ {P : Type 0} (k : Keeper P) (rate : ℕ) where
       }
 
   pub ended_fed : (b : Block) (e e' : EngineOf) (saving after : Option SavingOf) (old new : P)
-      (target : Target) (o : ℕ) (t u : List Reply) →
+      (target : Target) (o : ℕ) (rs : List Reply) →
       Accepts k rate b saving after old new (Finished target o) →
-      GoesTold (more_outcomes (o ∷ [])) e e' t u →
-      Fed k rate (b ∷ []) [] (settling e saving old t) (settling e' after new u)
-  ended_fed b e e' saving after old new target o t u a g =
+      GoesBy (more_outcomes (o ∷ [])) rs e e' →
+      Fed k rate (b ∷ []) [] rs (feeding e saving old) (feeding e' after new)
+  ended_fed b e e' saving after old new target o rs a g =
       record {
         outcomes = o ∷ [];
         keeps = one_kept k rate b saving after old new (Finished target o) a;
@@ -180,22 +186,15 @@ module _ {P : Type 0} (k : Keeper P) (rate : ℕ) where
       }
 
   -- a block that the engine gave itself
-  pub given_fed : (b : Block) (e : EngineOf) (s t : SettledOf P) → next_block e ≡ Some b →
-      s.engine ≡ block_sent e → Fed k rate (b ∷ []) [] s t →
-      Fed k rate (b ∷ []) (b ∷ []) (settling e s.saving s.keeper s.told) t
-  given_fed b e s t next sent f =
+  pub given_fed : (b : Block) (e : EngineOf) (rs : List Reply) (s t : FedOf P) →
+      next_block e ≡ Some b → s.engine ≡ block_sent e → Fed k rate (b ∷ []) [] rs s t →
+      Fed k rate (b ∷ []) (b ∷ []) rs (feeding e s.saving s.keeper) t
+  given_fed b e rs s t next sent f =
       record {
         outcomes = f.outcomes;
         keeps = f.keeps;
-        goes = told_then e s.engine t.engine (record no_more { blocks = b ∷ [] })
-            (record no_more { saver = f.outcomes }) s.told s.told t.told
-            (record {
-              replies = [];
-              goes = subst (λ n. Goes e n (record no_more { blocks = b ∷ [] })) (sym sent)
-                  (goes_block b e next);
-              tells = sym (append-nil s.told);
-            })
-            f.goes;
+        goes = by_then e s.engine t.engine (record no_more { blocks = b ∷ [] })
+            (record no_more { saver = f.outcomes }) [] rs (block_by b e s.engine next sent) f.goes;
       }
 
 -- a block that may be fed may come
@@ -228,14 +227,15 @@ drained_feeds b e saving m m' served ring next =
     }
 
 -- and behind it the saver stands behind one more
-pub drained_served : {P : Type 0} (k : Keeper P) (rate : ℕ) (b : Block) (s t : SettledOf P)
+pub drained_served : {P : Type 0} (k : Keeper P) (rate : ℕ) (b : Block) (rs : List Reply)
+    (s t : FedOf P)
     (m m' : BothEnds Block) → IsServed s.engine s.saving m.taken m.sent → SameBothRing m m' →
     TakesRest (λ sent x bound. IsTrue (may_follow sent x bound)) b m m' →
-    Fed k rate (b ∷ []) [] s t → IsServed t.engine t.saving m'.taken m'.sent
-drained_served k rate b s t m m' served ring next f =
+    Fed k rate (b ∷ []) [] rs s t → IsServed t.engine t.saving m'.taken m'.sent
+drained_served k rate b rs s t m m' served ring next f =
     subst (λ l. IsServed t.engine t.saving m'.taken l) (append-nil m.sent ∙ sym ring.sent)
     (subst (λ l. IsServed t.engine t.saving l (m.sent ++ [])) (sym next.taken)
-    (served_on k rate m.bound m.taken m.sent (b ∷ []) [] s t served
+    (served_on k rate m.bound m.taken m.sent (b ∷ []) [] rs s t served
     (one_follows m.taken b m.bound next.may) f))
 
 -- the block that the engine sends next may follow
@@ -262,13 +262,7 @@ next_feeds e next saving b sent x is now =
       served = record {
         outcomes = x.outcomes;
         stands = subst (λ l. StandsBehind next l (sent ++ b ∷ [])) (append-nil x.outcomes)
-            (stands_behind e next x.outcomes [] sent (b ∷ []) [] [] x.stands
-            (record {
-              replies = [];
-              goes = subst (λ n. Goes e n (record no_more { blocks = b ∷ [] })) (sym now)
-                  (goes_block b e is);
-              tells = refl;
-            }));
+            (stands_behind e next x.outcomes [] sent (b ∷ []) [] x.stands (block_by b e next is now));
         each = x.each;
         saves = x.saves;
         come = x.come;
@@ -278,12 +272,12 @@ next_feeds e next saving b sent x is now =
     }
 
 pub next_served : {P : Type 0} (k : Keeper P) (rate : ℕ) (e : EngineOf) (b : Block)
-    (sent : List Block) (saving : Option SavingOf) (old : P) (told : List Reply)
-    (t : SettledOf P) → IsServed e saving sent sent → next_block e ≡ Some b →
-    Fed k rate (b ∷ []) (b ∷ []) (settling e saving old told) t →
+    (sent : List Block) (rs : List Reply) (saving : Option SavingOf) (old : P) (t : FedOf P) →
+    IsServed e saving sent sent → next_block e ≡ Some b →
+    Fed k rate (b ∷ []) (b ∷ []) rs (feeding e saving old) t →
     IsServed t.engine t.saving (sent ++ b ∷ []) (sent ++ b ∷ [])
-next_served k rate e b sent saving old told t x is f =
-    served_on k rate (2 * e.journal.quota) sent sent (b ∷ []) (b ∷ []) (settling e saving old told) t
+next_served k rate e b sent rs saving old t x is f =
+    served_on k rate (2 * e.journal.quota) sent sent (b ∷ []) (b ∷ []) rs (feeding e saving old) t
     x (one_follows sent b (2 * e.journal.quota) (next_follows e saving b sent x is)) f
 
 -- with no block left every save is answered

@@ -15,33 +15,22 @@ use Rattle.engine_steps.specs.Engines.{EngineOf, entry_of, due_target, took, Cle
 use Rattle.live_steps.specs.Passed.{Passed}
 use Rattle.live_steps.proofs.StepLemmas.{release_clears}
 use Rattle.live_steps.proofs.RoomLemmas.{osc_count, midi_count}
-use Rattle.live_goes.specs.Going.{More, no_more, and_then, more_passed, Goes, Stands, Owes}
+use Rattle.live_goes.specs.Going.{More, no_more, and_then, more_passed, Stands, Owes}
 use Rattle.live_goes.proofs.GoLemmas.{goes_none, goes_then, goes_command, goes_outcome}
 use Rattle.live_goes.proofs.StandLemmas.{owed_due, owed_room, stands_on}
 use Rattle.settling.specs.Settled.{IsLeft}
 use Rattle.settling.specs.Standing.{taken_by, MayCommand, StandsBehind, IsOwed, MayRelease}
-use Rattle.settling.specs.Steps.{HasDrained, more_commands, more_outcomes, GoesTold}
+use Rattle.settling.specs.Steps.{HasDrained, more_commands, more_outcomes, GoesBy}
 
 -- nothing was taken
-pub told_none : (e : EngineOf) (told : List Reply) → GoesTold no_more e e told told
-told_none e told =
-    record { replies = []; goes = goes_none e; tells = sym (append-nil told) }
+pub by_none : (e : EngineOf) → GoesBy no_more [] e e
+by_none e = goes_none e
 
 -- this was taken, and then that
-pub told_then : (e e' e'' : EngineOf) (m n : More) (t u v : List Reply) → GoesTold m e e' t u →
-    GoesTold n e' e'' u v → GoesTold (and_then m n) e e'' t v
-told_then e e' e'' m n t u v x y =
-    record {
-      replies = x.replies ++ y.replies;
-      goes = goes_then e e' e'' (record m { replies = x.replies })
-          (record n { replies = y.replies }) x.goes y.goes;
-      tells = y.tells ∙ ap (λ l. l ++ y.replies) x.tells ∙ append_assoc t x.replies y.replies;
-    }
-
--- these were told, and then those
-pub told_more : (t u v rs qs : List Reply) → u ≡ t ++ rs → v ≡ u ++ qs → v ≡ t ++ (rs ++ qs)
-told_more t u v rs qs first next =
-    next ∙ ap (λ l. l ++ qs) first ∙ append_assoc t rs qs
+pub by_then : (e e' e'' : EngineOf) (m n : More) (rs qs : List Reply) → GoesBy m rs e e' →
+    GoesBy n qs e' e'' → GoesBy (and_then m n) (rs ++ qs) e e''
+by_then e e' e'' m n rs qs x y =
+    goes_then e e' e'' (record m { replies = rs }) (record n { replies = qs }) x y
 
 -- what was drained
 pub drained_none : {T : Type 0} (m : BothEnds T) → HasDrained m m []
@@ -76,31 +65,19 @@ no_commands zero = refl
 no_commands (suc sender) = refl
 
 -- a command that was given
-pub command_told : (sender : ℕ) (c : Command) (e next : EngineOf) (answer : Option Reply)
-    (t u : List Reply) → sender < 2 → next ≡ took (entry_of sender c e) e →
-    answer ≡ reply (entry_of sender c e) e.looper → u ≡ t ++ option_to_list answer →
-    GoesTold (more_commands sender (c ∷ [])) e next t u
-command_told zero c e next answer t u two now told tells =
-    record {
-      replies = option_to_list answer;
-      goes = subst (λ n. Goes e n (record (more_commands 0 (c ∷ [])) { replies = option_to_list answer }))
-          (sym now)
-          (subst (λ r. Goes e (took (entry_of 0 c e) e)
-          (record (more_commands 0 (c ∷ [])) { replies = option_to_list r })) (sym told)
-          (goes_command 0 c e two));
-      tells = tells;
-    }
-command_told (suc zero) c e next answer t u two now told tells =
-    record {
-      replies = option_to_list answer;
-      goes = subst (λ n. Goes e n (record (more_commands 1 (c ∷ [])) { replies = option_to_list answer }))
-          (sym now)
-          (subst (λ r. Goes e (took (entry_of 1 c e) e)
-          (record (more_commands 1 (c ∷ [])) { replies = option_to_list r })) (sym told)
-          (goes_command 1 c e two));
-      tells = tells;
-    }
-command_told (suc (suc n)) c e next answer t u two now told tells = absurd (omega arith)
+pub command_by : (sender : ℕ) (c : Command) (e next : EngineOf) (answer : Option Reply) →
+    sender < 2 → next ≡ took (entry_of sender c e) e →
+    answer ≡ reply (entry_of sender c e) e.looper →
+    GoesBy (more_commands sender (c ∷ [])) (option_to_list answer) e next
+command_by zero c e next answer two now told =
+    subst (λ n. GoesBy (more_commands 0 (c ∷ [])) (option_to_list answer) e n) (sym now)
+    (subst (λ r. GoesBy (more_commands 0 (c ∷ [])) (option_to_list r) e (took (entry_of 0 c e) e))
+    (sym told) (goes_command 0 c e two))
+command_by (suc zero) c e next answer two now told =
+    subst (λ n. GoesBy (more_commands 1 (c ∷ [])) (option_to_list answer) e n) (sym now)
+    (subst (λ r. GoesBy (more_commands 1 (c ∷ [])) (option_to_list r) e (took (entry_of 1 c e) e))
+    (sym told) (goes_command 1 c e two))
+command_by (suc (suc n)) c e next answer two now told = absurd (omega arith)
 
 -- what is drained next leaves no more than was sent
 drained_few : {T : Type 0} (follows : List T → T → ℕ → Type 0) (x : T) (m m' : BothEnds T) →
@@ -136,17 +113,17 @@ none_longer : {A : Type 0} (xs : List A) (n : ℕ) → length xs ≤ n → lengt
 none_longer xs n few = subst (λ l. length l ≤ n) (sym (append-nil xs)) few
 
 pub commands_stand : (sender : ℕ) (cs : List Command) (e e' : EngineOf) (p : Passed)
-    (t u : List Reply) → sender < 2 → Stands e p →
+    (rs : List Reply) → sender < 2 → Stands e p →
     length (taken_by sender p ++ cs) ≤ e.journal.quota →
-    (g : GoesTold (more_commands sender cs) e e' t u) →
-    Stands e' (more_passed (record (more_commands sender cs) { replies = g.replies }) p)
-commands_stand zero cs e e' p t u two stands few g =
-    stands_on e e' p (record (more_commands 0 cs) { replies = g.replies }) stands g.goes few
+    GoesBy (more_commands sender cs) rs e e' →
+    Stands e' (more_passed (record (more_commands sender cs) { replies = rs }) p)
+commands_stand zero cs e e' p rs two stands few g =
+    stands_on e e' p (record (more_commands 0 cs) { replies = rs }) stands g few
     (none_longer p.midi e.journal.quota stands.midi)
-commands_stand (suc zero) cs e e' p t u two stands few g =
-    stands_on e e' p (record (more_commands 1 cs) { replies = g.replies }) stands g.goes
+commands_stand (suc zero) cs e e' p rs two stands few g =
+    stands_on e e' p (record (more_commands 1 cs) { replies = rs }) stands g
     (none_longer p.osc e.journal.quota stands.osc) few
-commands_stand (suc (suc n)) cs e e' p t u two stands few g = absurd (omega arith)
+commands_stand (suc (suc n)) cs e e' p rs two stands few g = absurd (omega arith)
 
 pub taken_more : (sender : ℕ) (cs : List Command) (replies : List Reply) (p : Passed) →
     taken_by sender (more_passed (record (more_commands sender cs) { replies = replies }) p)
@@ -156,34 +133,34 @@ taken_more (suc sender) cs replies p = refl
 
 -- the next command may be taken
 pub command_next : (follows : List Command → Command → ℕ → Type 0) (sender : ℕ) (c : Command)
-    (e e' : EngineOf) (m m' : BothEnds Command) (t u : List Reply) → sender < 2 →
+    (e e' : EngineOf) (m m' : BothEnds Command) (rs : List Reply) → sender < 2 →
     MayCommand sender e m → SameBothRing m m' → TakesRest follows c m m' →
-    GoesTold (more_commands sender (c ∷ [])) e e' t u → MayCommand sender e' m'
-command_next follows sender c e e' m m' t u two may ring next g =
+    GoesBy (more_commands sender (c ∷ [])) rs e e' → MayCommand sender e' m'
+command_next follows sender c e e' m m' rs two may ring next g =
     let all = ap length ring.sent in
     let below = drained_few follows c m m' ring next in
     let few = may.few in
     let taken = ap length may.taken in
     let both = length-append (taken_by sender may.passed) (c ∷ []) in
-    let quota = g.goes.quota in
+    let quota = g.quota in
     record {
-      passed = more_passed (record (more_commands sender (c ∷ [])) { replies = g.replies }) may.passed;
-      stands = commands_stand sender (c ∷ []) e e' may.passed t u two may.stands (omega arith) g;
-      taken = taken_more sender (c ∷ []) g.replies may.passed
+      passed = more_passed (record (more_commands sender (c ∷ [])) { replies = rs }) may.passed;
+      stands = commands_stand sender (c ∷ []) e e' may.passed rs two may.stands (omega arith) g;
+      taken = taken_more sender (c ∷ []) rs may.passed
           ∙ ap (λ l. l ++ c ∷ []) may.taken ∙ sym next.taken;
       few = omega arith;
     }
 
 -- the engine stands behind outcomes and blocks that came behind
 pub stands_behind : (e e' : EngineOf) (outs more : List ℕ) (sent given : List Block)
-    (t u : List Reply) → StandsBehind e outs sent →
-    GoesTold (record no_more { saver = more; blocks = given }) e e' t u →
+    (rs : List Reply) → StandsBehind e outs sent →
+    GoesBy (record no_more { saver = more; blocks = given }) rs e e' →
     StandsBehind e' (outs ++ more) (sent ++ given)
-stands_behind e e' outs more sent given t u x g =
-    let m : More = record no_more { saver = more; replies = g.replies; blocks = given } in
+stands_behind e e' outs more sent given rs x g =
+    let m : More = record no_more { saver = more; replies = rs; blocks = given } in
     record {
       passed = more_passed m x.passed;
-      stands = stands_on e e' x.passed m x.stands g.goes
+      stands = stands_on e e' x.passed m x.stands g
           (none_longer x.passed.osc e.journal.quota x.stands.osc)
           (none_longer x.passed.midi e.journal.quota x.stands.midi);
       saver = ap (λ l. l ++ more) x.saver;
@@ -212,23 +189,17 @@ due_clears_in e target o x is =
     release_clears s.0 s.1 s.2 target o e x.stands.passed s.3 is
 
 -- an outcome that was given
-pub outcome_told : (target : Target) (o : ℕ) (e next : EngineOf) (answer : Option Reply)
-    (t u : List Reply) → due_target e ≡ Some target →
+pub outcome_by : (target : Target) (o : ℕ) (e next : EngineOf) (answer : Option Reply) →
+    due_target e ≡ Some target →
     IsTrue (is_release_target (length e.looper.tracks) target) → IsTrue (is_outcome o) →
     next ≡ took (entry_of 2 (Release target o) e) e →
-    answer ≡ reply (entry_of 2 (Release target o) e) e.looper → u ≡ t ++ option_to_list answer →
-    GoesTold (more_outcomes (o ∷ [])) e next t u
-outcome_told target o e next answer t u due there ends now told tells =
+    answer ≡ reply (entry_of 2 (Release target o) e) e.looper →
+    GoesBy (more_outcomes (o ∷ [])) (option_to_list answer) e next
+outcome_by target o e next answer due there ends now told =
     let en = entry_of 2 (Release target o) e in
-    record {
-      replies = option_to_list answer;
-      goes = subst (λ n. Goes e n (record (more_outcomes (o ∷ [])) { replies = option_to_list answer }))
-          (sym now)
-          (subst (λ r. Goes e (took en e)
-          (record (more_outcomes (o ∷ [])) { replies = option_to_list r })) (sym told)
-          (goes_outcome target o e due there ends));
-      tells = tells;
-    }
+    subst (λ n. GoesBy (more_outcomes (o ∷ [])) (option_to_list answer) e n) (sym now)
+    (subst (λ r. GoesBy (more_outcomes (o ∷ [])) (option_to_list r) e (took en e)) (sym told)
+    (goes_outcome target o e due there ends))
 
 -- an outcome that is drained is owed
 pub drained_owed : (follows : List ℕ → ℕ → ℕ → Type 0) (o : ℕ) (e : EngineOf)
@@ -240,10 +211,10 @@ drained_owed follows o e m m' may ring next =
 
 -- and the next one may be taken
 pub release_next : (follows : List ℕ → ℕ → ℕ → Type 0) (o : ℕ) (e e' : EngineOf)
-    (m m' : BothEnds ℕ) (t u : List Reply) → MayRelease e m → SameBothRing m m' →
-    TakesRest follows o m m' → GoesTold (more_outcomes (o ∷ [])) e e' t u → MayRelease e' m'
-release_next follows o e e' m m' t u may ring next g =
-    let stands = stands_behind e e' m.taken (o ∷ []) may.blocks [] t u may.stands g in
+    (m m' : BothEnds ℕ) (rs : List Reply) → MayRelease e m → SameBothRing m m' →
+    TakesRest follows o m m' → GoesBy (more_outcomes (o ∷ [])) rs e e' → MayRelease e' m'
+release_next follows o e e' m m' rs may ring next g =
+    let stands = stands_behind e e' m.taken (o ∷ []) may.blocks [] rs may.stands g in
     record {
       blocks = may.blocks ++ [];
       stands = subst (λ l. StandsBehind e' l (may.blocks ++ [])) (sym next.taken) stands;

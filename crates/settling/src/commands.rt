@@ -2,10 +2,11 @@
 
 ghost use Rattle.std.specs.Prelude.{◌≡◌, ◌<◌, ◌∷◌, [], List};
 ghost use Rattle.sl_commands.specs.declared.Command.{Command};
+ghost use Rattle.sl_commands.specs.declared.Reply.{Reply};
 ghost use Rattle.frame_stamp.specs.Journals.{HasRoom};
 ghost use Rattle.settling.specs.Settled.{IsLeft};
 ghost use Rattle.settling.specs.Standing.{MayCommand};
-ghost use Rattle.settling.specs.Steps.{GoesTold, more_commands};
+ghost use Rattle.settling.specs.Steps.{GoesBy, more_commands};
 
 use crate::replies::tell_some;
 use crate::teller::Teller;
@@ -18,8 +19,8 @@ use std::sync::Wait;
 fn give<T: Teller>(engine: &mut Engine, sender: u8, command: Command, teller: &mut T)
     requires two { sender < 2 }
     requires room { HasRoom sender engine.old.journal }
-    ensures goes { GoesTold (more_commands sender (command ∷ [])) engine.old engine.new
-        (T.told teller.old) (T.told teller.new) }
+    ensures goes { (told : List Reply) × T.tells teller.old told teller.new
+        × GoesBy (more_commands sender (command ∷ [])) told engine.old engine.new }
 {
     let reply = engine.take(sender, command);
     tell_some(teller, reply);
@@ -36,9 +37,10 @@ pub(crate) fn settle_commands<T: Teller, W: Wait>(
     requires two { sender < 2 }
     requires may { MayCommand sender engine.old met.old }
     ensures left { (rest : List Command) × IsLeft met.old rest
-        × GoesTold (more_commands sender rest) engine.old engine.new (T.told teller.old)
-        (T.told teller.new) }
+        × (told : List Reply) × T.tells teller.old told teller.new
+        × GoesBy (more_commands sender rest) told engine.old engine.new }
 {
+    T::telling_composes();
     'draining: for _ in wait.forever() {
         let Some(command) = met.drain(wait) else {
             return;

@@ -2,10 +2,11 @@
 
 ghost use Rattle.std.specs.Prelude.{◌≡◌, ◌∷◌, [], ◌++◌, List, Some};
 ghost use Rattle.sl_commands.specs.declared.Block.{Block};
+ghost use Rattle.sl_commands.specs.declared.Reply.{Reply};
 ghost use Rattle.engine_steps.specs.Engines.{next_block, left, waiting};
-ghost use Rattle.settling.specs.Settled.{IsLeft, settling};
+ghost use Rattle.settling.specs.Settled.{IsLeft};
 ghost use Rattle.settling.specs.Standing.{IsServed, MayFeed};
-ghost use Rattle.settling.specs.Steps.{Fed};
+ghost use Rattle.settling.specs.Steps.{Fed, feeding};
 
 use crate::outcomes::release;
 use crate::teller::Teller;
@@ -29,10 +30,12 @@ fn feed<P: Keeper, T: Teller>(
     requires may { MayFeed engine.old saver.old.saving block.now }
     ensures rate { saver.new.rate ≡ saver.old.rate }
     ensures reads { P.read_faults keeper.new ≡ P.read_faults keeper.old }
-    ensures fed { Fed P.Keeper saver.old.rate (block.now ∷ []) []
-        (settling engine.old saver.old.saving keeper.old (T.told teller.old))
-        (settling engine.new saver.new.saving keeper.new (T.told teller.new)) }
+    ensures fed { (told : List Reply) × T.tells teller.old told teller.new
+        × Fed P.Keeper saver.old.rate (block.now ∷ []) [] told
+        (feeding engine.old saver.old.saving keeper.old)
+        (feeding engine.new saver.new.saving keeper.new) }
 {
+    T::telling_composes();
     match saver.accept(alloc, keeper, block) {
         Saved::Continue => {}
         Saved::Finished(_, outcome) => release(engine, outcome, teller),
@@ -54,10 +57,12 @@ pub(crate) fn feed_ring<P: Keeper, T: Teller, W: Wait>(
     ensures reads { P.read_faults keeper.new ≡ P.read_faults keeper.old }
     ensures left { (rest : List Block) × IsLeft met.old rest
         × IsServed engine.new saver.new.saving met.old.sent met.old.sent
-        × Fed P.Keeper saver.old.rate rest []
-        (settling engine.old saver.old.saving keeper.old (T.told teller.old))
-        (settling engine.new saver.new.saving keeper.new (T.told teller.new)) }
+        × (told : List Reply) × T.tells teller.old told teller.new
+        × Fed P.Keeper saver.old.rate rest [] told
+        (feeding engine.old saver.old.saving keeper.old)
+        (feeding engine.new saver.new.saving keeper.new) }
 {
+    T::telling_composes();
     'draining: for _ in wait.forever() {
         let Some(block) = met.drain(wait) else {
             return;
@@ -81,9 +86,10 @@ fn feed_next<P: Keeper, T: Teller>(
     ensures rate { saver.new.rate ≡ saver.old.rate }
     ensures reads { P.read_faults keeper.new ≡ P.read_faults keeper.old }
     ensures served { (sent : List Block) × IsServed engine.new saver.new.saving sent sent }
-    ensures fed { Fed P.Keeper saver.old.rate (block.now ∷ []) (block.now ∷ [])
-        (settling engine.old saver.old.saving keeper.old (T.told teller.old))
-        (settling engine.new saver.new.saving keeper.new (T.told teller.new)) }
+    ensures fed { (told : List Reply) × T.tells teller.old told teller.new
+        × Fed P.Keeper saver.old.rate (block.now ∷ []) (block.now ∷ []) told
+        (feeding engine.old saver.old.saving keeper.old)
+        (feeding engine.new saver.new.saving keeper.new) }
 {
     engine.block_sent();
     feed(alloc, keeper, engine, saver, teller, block);
@@ -101,12 +107,14 @@ pub(crate) fn feed_rest<P: Keeper, T: Teller, W: Wait>(
     requires served { (sent : List Block) × IsServed engine.old saver.old.saving sent sent }
     ensures rate { saver.new.rate ≡ saver.old.rate }
     ensures reads { P.read_faults keeper.new ≡ P.read_faults keeper.old }
-    ensures fed { (blocks : List Block) × Fed P.Keeper saver.old.rate blocks blocks
-        (settling engine.old saver.old.saving keeper.old (T.told teller.old))
-        (settling engine.new saver.new.saving keeper.new (T.told teller.new)) }
+    ensures fed { (blocks : List Block) × (told : List Reply) × T.tells teller.old told teller.new
+        × Fed P.Keeper saver.old.rate blocks blocks told
+        (feeding engine.old saver.old.saving keeper.old)
+        (feeding engine.new saver.new.saving keeper.new) }
     ensures none { left engine.new ≡ [] }
     ensures answered { waiting engine.new ≡ [] }
 {
+    T::telling_composes();
     'feeding: for _ in wait.forever() {
         match engine.next_block() {
             Some(block) => feed_next(alloc, keeper, engine, saver, teller, &block),

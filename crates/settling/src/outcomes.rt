@@ -1,10 +1,11 @@
 //! Giving outcomes of saves to the engine.
 
 ghost use Rattle.std.specs.Prelude.{◌≡◌, ◌∷◌, [], ℕ, List, IsTrue};
+ghost use Rattle.sl_commands.specs.declared.Reply.{Reply};
 ghost use Rattle.sl_commands.specs.Commands.{is_outcome};
 ghost use Rattle.settling.specs.Settled.{IsLeft};
 ghost use Rattle.settling.specs.Standing.{IsOwed, MayRelease};
-ghost use Rattle.settling.specs.Steps.{GoesTold, more_outcomes};
+ghost use Rattle.settling.specs.Steps.{GoesBy, more_outcomes};
 
 use crate::replies::tell_some;
 use crate::teller::Teller;
@@ -17,8 +18,8 @@ use std::sync::Wait;
 pub(crate) fn release<T: Teller>(engine: &mut Engine, outcome: u8, teller: &mut T)
     requires outcome { IsTrue (is_outcome outcome) }
     requires owed { IsOwed engine.old }
-    ensures goes { GoesTold (more_outcomes (outcome ∷ [])) engine.old engine.new
-        (T.told teller.old) (T.told teller.new) }
+    ensures goes { (told : List Reply) × T.tells teller.old told teller.new
+        × GoesBy (more_outcomes (outcome ∷ [])) told engine.old engine.new }
 {
     match engine.due() {
         Some(target) => {
@@ -38,9 +39,10 @@ pub(crate) fn settle_outcomes<T: Teller, W: Wait>(
 )
     requires may { MayRelease engine.old met.old }
     ensures left { (rest : List ℕ) × IsLeft met.old rest
-        × GoesTold (more_outcomes rest) engine.old engine.new (T.told teller.old)
-        (T.told teller.new) }
+        × (told : List Reply) × T.tells teller.old told teller.new
+        × GoesBy (more_outcomes rest) told engine.old engine.new }
 {
+    T::telling_composes();
     'draining: for _ in wait.forever() {
         let Some(outcome) = met.drain(wait) else {
             return;

@@ -1,10 +1,11 @@
 //! Settling a whole session.
 
-ghost use Rattle.std.specs.Prelude.{◌≡◌, ◌++◌, ℕ, Some, IsTrue, option_to_list};
+ghost use Rattle.std.specs.Prelude.{◌≡◌, [], ℕ, List, Some, IsTrue, option_to_list};
+ghost use Rattle.sl_commands.specs.declared.Reply.{Reply};
 ghost use Rattle.sl_commands.specs.Commands.{is_outcome};
 ghost use Rattle.settling.specs.Settled.{LeftOf, AreLeft, MaySettle, Settled, unsettled, settling};
 ghost use Rattle.settling.specs.Standing.{IsOwed, MayTakeLeft};
-ghost use Rattle.settling.specs.Steps.{GoesTold, TookLeft, more_outcomes};
+ghost use Rattle.settling.specs.Steps.{GoesBy, TookLeft, more_outcomes};
 
 use crate::commands::settle_commands;
 use crate::feeding::{feed_rest, feed_ring};
@@ -24,9 +25,10 @@ use std::sync::Wait;
 fn release_held<T: Teller>(engine: &mut Engine, outcome: Option<u8>, teller: &mut T)
     requires outcome { (o : ℕ) → outcome ≡ Some o → IsTrue (is_outcome o) }
     requires owed { (o : ℕ) → outcome ≡ Some o → IsOwed engine.old }
-    ensures goes { GoesTold (more_outcomes (option_to_list outcome)) engine.old engine.new
-        (T.told teller.old) (T.told teller.new) }
+    ensures goes { (told : List Reply) × T.tells teller.old told teller.new
+        × GoesBy (more_outcomes (option_to_list outcome)) told engine.old engine.new }
 {
+    T::telling_composes();
     match outcome {
         Some(outcome) => release(engine, outcome, teller),
         None => {}
@@ -44,9 +46,10 @@ fn take_left<T: Teller, W: Wait>(
     teller: &mut T,
 )
     requires may { MayTakeLeft engine.old osc.old midi.old saver.old outcome }
-    ensures left { TookLeft engine.old engine.new osc.old midi.old saver.old outcome
-        (T.told teller.old) (T.told teller.new) }
+    ensures left { (told : List Reply) × T.tells teller.old told teller.new
+        × TookLeft engine.old engine.new osc.old midi.old saver.old outcome told }
 {
+    T::telling_composes();
     settle_commands(wait, engine, osc, OSC, teller);
     settle_commands(wait, engine, midi, MIDI, teller);
     settle_outcomes(wait, engine, saver, teller);
@@ -67,15 +70,16 @@ pub fn settle<P: Keeper, T: Teller, W: Wait>(
     saver: &mut Saver,
     teller: &mut T,
 )
-    requires may { MaySettle (unsettled engine.old reply saver.old.saving keeper.old outcome
-        (T.told teller.old)) rings }
+    requires may { MaySettle (unsettled engine.old reply saver.old.saving keeper.old outcome [])
+        rings }
     ensures rate { saver.new.rate ≡ saver.old.rate }
     ensures reads { P.read_faults keeper.new ≡ P.read_faults keeper.old }
-    ensures settled { (left : LeftOf) × AreLeft rings left
+    ensures settled { (left : LeftOf) × (told : List Reply) × AreLeft rings left
+        × T.tells teller.old told teller.new
         × Settled P.Keeper saver.old.rate (unsettled engine.old reply saver.old.saving keeper.old
-        outcome (T.told teller.old)) left
-        (settling engine.new saver.new.saving keeper.new (T.told teller.new)) }
+        outcome []) left (settling engine.new saver.new.saving keeper.new told) }
 {
+    T::telling_composes();
     let MetRings {
         mut osc,
         mut midi,

@@ -1,6 +1,7 @@
+use Rattle.std.specs.Prelude.{option_to_list}
 use Rattle.engine_steps.specs.Engines.{entry_of}
 use Rattle.engine_steps.proofs.ClearLemmas.{commands_clear_nothing}
-use Rattle.settling.proofs.TakeLemmas.{command_told}
+use Rattle.settling.proofs.TakeLemmas.{command_by}
 use Rattle.settling.proofs.commands.give.Goals as goal
 
 pub take-reply-requires-clause-clears : goal.take-reply-requires-clause-clears
@@ -11,8 +12,10 @@ take-reply-requires-clause-clears g c =
 pub returns : goal.returns
 returns g c =
     record {
-      goes = command_told c.args.sender c.args.command c.args.engine.now c.take-reply.new.self
-          c.take-reply.result (g.T.Teller.told c.args.teller.now)
-          (g.T.Teller.told c.tell_some.new.teller) c.requires.two c.take-reply.ensures.took
-          c.take-reply.ensures.reply c.tell_some.ensures;
+      goes = (
+        option_to_list c.take-reply.result,
+        c.tell_some.ensures,
+        command_by c.args.sender c.args.command c.args.engine.now c.take-reply.new.self
+            c.take-reply.result c.requires.two c.take-reply.ensures.took c.take-reply.ensures.reply,
+      );
     }

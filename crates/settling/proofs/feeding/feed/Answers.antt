@@ -1,3 +1,4 @@
+use Rattle.std.proofs.Common.{[]}
 use Rattle.settling.proofs.FeedLemmas.{fed_come, goes_fed, ended_outcome, ended_owed, ended_fed}
 use Rattle.settling.proofs.feeding.feed.Goals as goal
 
@@ -8,10 +9,13 @@ accept-requires g c =
     }
 
 pub returns-in-Continue-clause-fed : goal.returns-in-Continue-clause-fed
-returns-in-Continue-clause-fed g c =
-    goes_fed g.P.Keeper c.args.saver.now.rate c.args.block.now c.args.engine.now
-    c.args.saver.now.saving c.accept.new.self.saving c.args.keeper.now c.accept.new.keeper
-    (g.T.Teller.told c.args.teller.now) c.in-Continue.ensures.accepted
+returns-in-Continue-clause-fed g c = (
+  [],
+  c.telling_composes.ensures.none c.args.teller.now,
+  goes_fed g.P.Keeper c.args.saver.now.rate c.args.block.now c.args.engine.now
+      c.args.saver.now.saving c.accept.new.self.saving c.args.keeper.now c.accept.new.keeper
+      c.in-Continue.ensures.accepted,
+)
 
 pub release-requires-clause-outcome : goal.release-requires-clause-outcome
 release-requires-clause-outcome g c =
@@ -27,8 +31,11 @@ release-requires-clause-owed g c =
 
 pub returns-in-Finished-clause-fed : goal.returns-in-Finished-clause-fed
 returns-in-Finished-clause-fed g c =
-    ended_fed g.P.Keeper c.args.saver.now.rate c.args.block.now c.args.engine.now
-    c.release.new.engine c.args.saver.now.saving c.accept.new.self.saving c.args.keeper.now
-    c.accept.new.keeper c.in-Finished.field-0 c.in-Finished.outcome
-    (g.T.Teller.told c.args.teller.now) (g.T.Teller.told c.release.new.teller)
-    c.in-Finished.ensures.accepted c.release.ensures.goes
+    let gave = c.release.ensures.goes in (
+      gave.0,
+      gave.1,
+      ended_fed g.P.Keeper c.args.saver.now.rate c.args.block.now c.args.engine.now
+          c.release.new.engine c.args.saver.now.saving c.accept.new.self.saving c.args.keeper.now
+          c.accept.new.keeper c.in-Finished.field-0 c.in-Finished.outcome gave.0
+          c.in-Finished.ensures.accepted gave.2,
+    )

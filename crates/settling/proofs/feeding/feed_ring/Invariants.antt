@@ -1,9 +1,9 @@
 -- The blocks that were drained so far are fed.
 use Rattle.std.proofs.Common.{◌≡◌, [], List}
 use Rattle.sl_commands.specs.declared.Block.{Block}
-use Rattle.settling.specs.Settled.{settling}
+use Rattle.sl_commands.specs.declared.Reply.{Reply}
 use Rattle.settling.specs.Standing.{IsServed}
-use Rattle.settling.specs.Steps.{HasDrained, Fed}
+use Rattle.settling.specs.Steps.{HasDrained, Fed, feeding}
 use Rattle.settling.proofs.feeding.feed_ring.Given as goal
 
 abbrev pub invariant-draining : goal.invariant-draining
@@ -13,7 +13,9 @@ invariant-draining g l = record {
   rest : List Block;
   drained : HasDrained l.fn.met l.met rest;
   served : IsServed l.engine l.saver.saving l.met.taken l.met.sent;
-  fed : Fed g.P.Keeper l.fn.saver.rate rest []
-      (settling l.fn.engine l.fn.saver.saving l.fn.keeper (g.T.Teller.told l.fn.teller))
-      (settling l.engine l.saver.saving l.keeper (g.T.Teller.told l.teller));
+  told : List Reply;
+  tells : g.T.Teller.tells l.fn.teller told l.teller;
+  fed : Fed g.P.Keeper l.fn.saver.rate rest [] told
+      (feeding l.fn.engine l.fn.saver.saving l.fn.keeper)
+      (feeding l.engine l.saver.saving l.keeper);
 }

@@ -1,5 +1,6 @@
 use Rattle.std.proofs.Common.{◌∙◌, sym}
-use Rattle.settling.proofs.TakeLemmas.{release_due, release_room, due_clears_in, outcome_told}
+use Rattle.std.specs.Prelude.{option_to_list}
+use Rattle.settling.proofs.TakeLemmas.{release_due, release_room, due_clears_in, outcome_by}
 use Rattle.settling.proofs.outcomes.release.Goals as goal
 
 pub take-reply-requires-clause-room : goal.take-reply-requires-clause-room
@@ -19,9 +20,11 @@ unreachable-requires g c =
 pub returns : goal.returns
 returns g c =
     record {
-      goes = outcome_told c.in-Some.target c.args.outcome c.args.engine.now c.take-reply.new.self
-          c.take-reply.result (g.T.Teller.told c.args.teller.now)
-          (g.T.Teller.told c.tell_some.new.teller) (sym c.due.ensures.value ∙ c.in-Some.is)
-          c.in-Some.ensures.within c.requires.outcome c.take-reply.ensures.took
-          c.take-reply.ensures.reply c.tell_some.ensures;
+      goes = (
+        option_to_list c.take-reply.result,
+        c.tell_some.ensures,
+        outcome_by c.in-Some.target c.args.outcome c.args.engine.now c.take-reply.new.self
+            c.take-reply.result (sym c.due.ensures.value ∙ c.in-Some.is) c.in-Some.ensures.within
+            c.requires.outcome c.take-reply.ensures.took c.take-reply.ensures.reply,
+      );
     }

@@ -1,20 +1,19 @@
-use Rattle.std.proofs.Common.{[], ◌∷◌, ◌++◌, sym, append-nil}
-use Rattle.settling.proofs.TakeLemmas.{drained_none, drained_more, drained_all, told_more}
+use Rattle.std.proofs.Common.{[], ◌∷◌, ◌++◌}
+use Rattle.settling.proofs.TakeLemmas.{drained_none, drained_more, drained_all}
 use Rattle.settling.proofs.replies.settle_replies.Goals as goal
 
 pub draining-init : goal.draining-init
 draining-init g c =
-    ([], drained_none c.args.met.now, sym (append-nil (g.T.Teller.told c.args.teller.now)))
+    ([], drained_none c.args.met.now, c.telling_composes.ensures.none c.args.teller.now)
 
 pub draining-preserved : goal.draining-preserved
 draining-preserved g c =
     let i = c.draining.invariant in
-    let start = g.T.Teller.told c.args.teller.now in
     let reply = c.in-Some-drain.reply in (
       i.0 ++ reply ∷ [],
       drained_more _ c.args.met.now c.draining.met c.drain.new.self i.0 reply i.1
           c.drain.ensures.ring c.in-Some-drain.ensures.some,
-      told_more start (g.T.Teller.told c.draining.teller) (g.T.Teller.told c.tell.new.self) i.0
+      c.telling_composes.ensures.more c.args.teller.now c.draining.teller c.tell.new.self i.0
           (reply ∷ []) i.2 c.tell.ensures,
     )
 
