@@ -1,0 +1,3 @@
+pub mod HearingLemmas
+pub mod GoingLemmas
+pub mod PlayingLemmas

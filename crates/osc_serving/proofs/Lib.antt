@@ -1,0 +1,4 @@
+pub mod GrowingLemmas
+pub mod WentLemmas
+pub mod RepliesLemmas
+pub mod TurnLemmas

@@ -1,0 +1,4 @@
+pub mod SendingLemmas
+pub mod ToldLemmas
+pub mod PongLemmas
+pub mod AddressLemmas

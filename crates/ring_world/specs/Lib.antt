@@ -1,0 +1,11 @@
+pub mod Rings
+pub mod Inputs
+pub mod Worlds
+pub mod Stepping
+pub mod Standing
+pub mod Saving
+pub mod Generating
+pub mod Running
+pub mod Summaries
+pub mod Drills
+pub mod WorkedRuns
