@@ -5,7 +5,7 @@ ghost use Rattle.sl_base.specs.Sounds.{Sound};
 ghost use Rattle.sl_base.specs.Limits.{max_chunks, max_quota};
 ghost use Rattle.looper_rules.specs.Reached.{AreLists};
 ghost use Rattle.engine_steps.specs.Engines.{Beginning};
-ghost use Rattle.looper_engine.specs.declared.setup.EngineFault.TheVariants.{Limit};
+ghost use Rattle.whole_looper.specs.declared.fault.BeginFault.TheVariants.{Limit};
 ghost use Rattle.looper_engine.specs.Beginnings.{beginning_of};
 ghost use Rattle.ring_world.specs.Worlds.{first_world, no_files};
 ghost use Rattle.ring_world.specs.Stepping.{did, heard, Does, MayDo};
