@@ -3,13 +3,14 @@
 # make picture   draws one of them as docs/two-loops.svg
 # make test      the gate: every proof, must-fail edit, test and program, and the repository's own checks
 # make install   puts the program and its manual page under PREFIX
+# make deb       makes a Debian package of them and the examples, out/looper_VERSION_amd64.deb
 # `rt` has to be on the PATH, and python3. Only a proved program is built: from nothing that takes its time, and tools/build says how long.
 
 PREFIX ?= /usr/local
 PROGRAM = crates/looper/out/looper
 DEMO = out/demo
 
-.PHONY: all demo examples picture test install
+.PHONY: all demo examples picture test install deb
 
 all:
 	@tools/build looper
@@ -44,3 +45,6 @@ install: all
 	install -d "$(DESTDIR)$(PREFIX)/bin" "$(DESTDIR)$(PREFIX)/share/man/man1"
 	install -m 755 $(PROGRAM) "$(DESTDIR)$(PREFIX)/bin/looper"
 	install -m 644 docs/looper.1 "$(DESTDIR)$(PREFIX)/share/man/man1/looper.1"
+
+deb: all
+	@tools/deb $(PROGRAM) out
