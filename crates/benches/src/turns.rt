@@ -78,7 +78,13 @@ fn cut<W: Wait>(stage: &mut Stage, wait: &W) {
 
 /// So many turns, one by one. In three of each hundred a layer of all loops is opened, closed and
 /// taken back.
-fn longest<W: Wait>(rt: &HostRuntime, wait: &W, loops: u8, period: usize, turns: u32) -> Option<bool>
+fn longest<W: Wait>(
+    rt: &HostRuntime,
+    wait: &W,
+    loops: u8,
+    period: usize,
+    turns: u32,
+) -> Option<bool>
     requires some { 1 ≤ loops }
     requires few { loops ≤ 16 }
     requires least { 1 ≤ period }

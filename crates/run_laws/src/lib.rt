@@ -27,8 +27,8 @@ pub use cut_runs::{
 pub use replies::{
     a_frame_comes_out_for_each_that_goes_in, a_get_or_a_save_is_answered_once,
     an_entry_gives_at_most_one_reply_and_one_save,
-    each_is_answered_once_where_no_save_is_unanswered, each_reply_answers_a_get_or_a_save_before_it,
-    gets_are_answered_in_their_order,
+    each_is_answered_once_where_no_save_is_unanswered,
+    each_reply_answers_a_get_or_a_save_before_it, gets_are_answered_in_their_order,
 };
 pub use saved_lists::{
     a_pin_holds_its_list_until_the_release, a_save_is_what_its_entry_met, no_save_changes_later,

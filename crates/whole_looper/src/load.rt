@@ -7,8 +7,8 @@ ghost use Rattle.looper_rules.specs.Run.{start};
 ghost use Rattle.looper_rules.specs.Reached.{AreLists};
 ghost use Rattle.whole_looper.specs.declared.fault.BeginFault.TheVariants as BeginFault;
 
-use crate::looper::{Buffers, Looper};
 use crate::fault::BeginFault;
+use crate::looper::{Buffers, Looper};
 use looper_tracks::{Tracks, chunks_needed};
 use mixer_fades::Gain;
 use sl_base::{Frames, Memory};
