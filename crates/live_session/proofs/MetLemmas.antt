@@ -13,7 +13,7 @@ use Rattle.live_steps.proofs.StepLemmas.{new_in_step}
 use Rattle.audio_ends.specs.declared.state.AudioState.{AudioState}
 use Rattle.audio_ends.specs.Ends.{passed}
 use Rattle.live_rings.specs.declared.meeting.MetRings.{MetRings}
-use Rattle.live_session.specs.Settled.{LeftOf, MaySettle, passed_rings}
+use Rattle.settling.specs.Settled.{LeftOf, MaySettle, passed_rings}
 use Rattle.live_session.specs.Session.{SessionOf, HaveRun, SameRings, AreMet, unsettled_of}
 
 module _ {P : Type 0} (k : Keeper P) (b : Beginning) (bindings : List Binding) (s t : SessionOf P)

@@ -50,7 +50,7 @@ use Rattle.reply_sending.specs.Sending.{post, Sending}
 use Rattle.reply_sending.proofs.SendingLemmas.{sending_joined}
 use Rattle.reply_sending.proofs.ToldLemmas.{told_joined}
 use Rattle.live_session.specs.Osc.{OscAt, heard_in, pongs_in, posted, ToldMore}
-use Rattle.live_session.specs.Settled.{LeftOf, AreLeft, Settled, SettledOf}
+use Rattle.settling.specs.Settled.{LeftOf, AreLeft, Settled, SettledOf}
 use Rattle.live_session.specs.Session.{SessionOf, HaveRun, AreMet, unsettled_of, told_behind}
 use Rattle.live_session.specs.Whole.{IsJournal, HasReleases, IsOfPackets, IsOfBytes, WhyEnded, IsPlayed, HasReturn, AreAnswered, AreSaved, IsWholeSession, run_of, has_quit, outside_of, outside_behind, given_by}
 use Rattle.live_session.proofs.AudioLemmas.{tells_of, why_ended, quit_taken}

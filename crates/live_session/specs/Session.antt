@@ -20,7 +20,7 @@ use Rattle.live_rings.specs.Meeting.{MetBy, any_follows, outcome_follows, block_
 use Rattle.live_session.specs.Audio.{AudioRan}
 use Rattle.live_session.specs.Osc.{OscAt, OscRan}
 use Rattle.live_session.specs.Midi.{MidiAt, MidiRan}
-use Rattle.live_session.specs.Settled.{UnsettledOf, LeftOf, unsettled}
+use Rattle.settling.specs.Settled.{UnsettledOf, LeftOf, unsettled}
 
 -- what the four activities own
 pub record SessionOf (P : Type 0) : Type 0 where

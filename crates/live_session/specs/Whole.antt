@@ -50,7 +50,7 @@ use Rattle.reply_sending.specs.Answers.{return_for, AreTold}
 use Rattle.reply_sending.specs.Sending.{post, Sending}
 use Rattle.live_session.specs.Asking.{HasAsked}
 use Rattle.live_session.specs.Osc.{OscAt, heard_in, pongs_in}
-use Rattle.live_session.specs.Settled.{SettledOf}
+use Rattle.settling.specs.Settled.{SettledOf}
 use Rattle.live_session.specs.Session.{SessionOf}
 
 -- the run of a journal over frames

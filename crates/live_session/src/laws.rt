@@ -7,7 +7,7 @@ ghost use Rattle.midi_bindings.specs.declared.binding.Binding.{Binding};
 ghost use Rattle.engine_steps.specs.Engines.{Beginning};
 ghost use Rattle.audio_ends.specs.declared.state.AudioState.{AudioState};
 ghost use Rattle.live_rings.specs.declared.meeting.MetRings.{MetRings};
-ghost use Rattle.live_session.specs.Settled.{LeftOf, SettledOf, AreLeft, MaySettle, Settled};
+ghost use Rattle.settling.specs.Settled.{LeftOf, SettledOf, AreLeft, MaySettle, Settled};
 ghost use Rattle.live_session.specs.Osc.{OscAt, ToldMore};
 ghost use Rattle.live_session.specs.Session.{SessionOf, HaveRun, SameRings, AreMet, unsettled_of, told_behind};
 ghost use Rattle.live_session.specs.Whole.{HasReturn, IsWholeSession, outside_of, outside_behind, given_by};

@@ -13,5 +13,7 @@
 #![tactic(auto)]
 
 mod serving;
+#[cfg(test)]
+mod tests;
 
 pub use serving::serve_saver;
