@@ -52,7 +52,7 @@ judged_value files n f (Err (File at kind line)) holds judged = absurd judged
 judged_value files n f (Err Read) holds judged = absurd judged
 judged_value files n f (Err Memory) holds judged = absurd judged
 judged_value files n f (Err Limit) holds judged =
-    record { told = told_of f; holds = holds; beyond = judged }
+    record { contents = told_of f; holds = holds; beyond = judged }
 
 pub judged_entries :
     (files : Option Files) (n : Named) (f : RunFiles) (r : Result RunFiles FilesFault) →
@@ -254,6 +254,6 @@ within_or_beyond chunks count lists within (too_few_chunks more) = let most = wi
 pub run_or_limit : (files : Files) (n : Named) (t : Contents) → IsNamed n → IsRunOf (Some files) n t →
     ExceedsLimit (Some files) n → ⊥
 run_or_limit files n t named is beyond =
-    let same = one_run files n beyond.told t named beyond.holds is.holds in
+    let same = one_run files n beyond.contents t named beyond.holds is.holds in
     within_or_beyond n.chunks (length t.frames) t.lists is.within
     (subst (λ (u : Contents). IsBeyond n.chunks (length u.frames) u.lists) same beyond.beyond)

@@ -10,4 +10,4 @@ returns-clause-limit c = run_or_limit
 
 pub returns-clause-order : goal.returns-clause-order
 returns-clause-order c files n name kind line named beyond =
-    run_or_bad files n beyond.told name kind line named beyond.holds
+    run_or_bad files n beyond.contents name kind line named beyond.holds
