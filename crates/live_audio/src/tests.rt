@@ -37,7 +37,7 @@ struct Stage {
 }
 
 impl Model for Stage {
-    ghost use Rattle.std.specs.Prelude.{◌≡◌, ◌×◌, ℕ, length};
+    ghost use Rattle.std.specs.Prelude.{◌≡◌, ℕ, length};
     ghost use Rattle.audio_ends.specs.Ends.{MayTurn};
     ghost use Rattle.audio_ends.specs.Did.{IsReady};
 
