@@ -14,6 +14,7 @@ const USAGE: &str = "looper: records phrases into loops and lets them repeat
 
 usage: looper render IN JOURNAL OUT [--period N] [--chunks N]
                      [--loops N | --session NAME]
+       looper drill NUMBER STEPS
        looper show NAME
        looper --help
        looper --version
@@ -23,9 +24,10 @@ the files that the commands save, and then what is heard to the WAV file OUT.
 The loops are --loops empty ones (1 to 16, else 1), or those of the session
 NAME. They share --chunks times 4096 frames (1 to 32768, else 4096). At most
 --period frames are processed at once (1 to 8192, else 1024), which changes
-nothing of what is written. show tells the loops of a session: of the text NAME
-and the WAV files NAME-0.wav, NAME-1.wav and so on. Files stand in the working
-directory.
+nothing of what is written. drill makes STEPS steps (1 to 1000000) from NUMBER
+(0 to 4294967295), runs them on one thread as a live session, and tells their
+numbers. show tells the loops of a session: of the text NAME and the WAV files
+NAME-0.wav, NAME-1.wav and so on. Files stand in the working directory.
 
 status: 0 done, 2 other words, 3 a bad file, 4 a reading failed,
         5 a write failed, 8 out of memory, 9 a limit is exceeded

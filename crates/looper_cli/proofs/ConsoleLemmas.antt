@@ -83,3 +83,11 @@ short_kind n small = length-decimal-le 3 n (omega arith) (omega arith) (omega ar
 
 pub short_line : (n : ℕ) → n < 2 ^ 32 → length (decimal n) ≤ 10
 short_line n small = length-decimal-le 10 n (omega arith) (omega arith) (omega arith)
+
+-- three parts behind a text
+pub three_parts : (text first second third a b c : List ℕ) → first ≡ text ++ a →
+    second ≡ first ++ b → third ≡ second ++ c → third ≡ text ++ (a ++ (b ++ c))
+three_parts text first second third a b c first_is second_is third_is =
+    third_is ∙ ap (λ (l : List ℕ). l ++ c) (second_is ∙ ap (λ (l : List ℕ). l ++ b) first_is)
+    ∙ ap (λ (l : List ℕ). l ++ c) (append_assoc text a b)
+    ∙ append_assoc text (a ++ b) c ∙ ap (λ (l : List ℕ). text ++ l) (append_assoc a b c)

@@ -1,5 +1,5 @@
 -- How a command ends, from what it answers.
-use Rattle.std.proofs.Common.{◌≡◌, ◌≢◌, ℕ, List, Option, Some, None, sym, ◌∙◌, subst, refl, inl, inr, ◌⊎◌, arith}
+use Rattle.std.proofs.Common.{◌≡◌, ◌≢◌, ℕ, List, Option, Some, None, sym, ap, ◌∙◌, subst, refl, inl, inr, ◌⊎◌, arith}
 use Rattle.std.specs.Prelude.{Ok, Err, IfSome}
 use Rattle.std.specs.String.{string_bytes}
 use Rattle.std.specs.declared.string.String.{String}
@@ -12,7 +12,7 @@ use Rattle.sl_ports.specs.declared.sinks.Sink.{Ghosts as Sink}
 use Rattle.run_files.specs.AllFiles.{IsRunOf}
 use Rattle.run_files.proofs.PartLemmas.{loaded_or_bad}
 use Rattle.run_files.proofs.RunLemmas.{run_or_bad, run_or_limit}
-use Rattle.looper_cli.specs.Words.{Asked, renders, shows}
+use Rattle.looper_cli.specs.Words.{Asked, renders, drills, shows}
 use Rattle.looper_cli.specs.Named.{named_of, IsNamedBy}
 use Rattle.looper_cli.specs.Console.{TellsDone, TellsFault}
 use Rattle.looper_cli.specs.Statuses.{status_number, status_of}
@@ -29,6 +29,7 @@ told_done :
     IsDone asked before after Said → IsDone asked before after Told
 told_done (renders r) before after Said Told tells done =
     record { contents = done.contents; run = done.run; files = done.files; text = tells _ done.text }
+told_done (drills d) before after Said Told tells done = (tells _ done.0, done.1)
 told_done (shows session) before after Said Told tells done = (
   record {
     settings = done.0.settings;
@@ -47,6 +48,10 @@ text_done :
     IsDone asked (k.files old) (k.files new) (λ said. string_bytes text ≡ said)
     × StaysWhole k old new
 text_done k (renders r) old new text does = does
+text_done k (drills d) old new text does = (
+  (does.0, ap k.files does.1),
+  record { reads = ap k.read_faults does.1; writes = ap k.write_faults does.1 },
+)
 text_done k (shows session) old new text does = ((does.0.0, does.1), does.0.1)
 
 -- a command that is done ends by how its text is told
@@ -89,6 +94,15 @@ fault_ends_so k s (renders r) old new before after Beyond does told = (does.0, t
 fault_ends_so k s (renders r) old new before after Reading does told = (does.0, told, does.1)
 fault_ends_so k s (renders r) old new before after Writing does told = inl (does, told)
 fault_ends_so k s (renders r) old new before after Lacking does told = (does, told)
+fault_ends_so k s (drills d) old new before after (IsBad name kind line) does told =
+    absurd (let is = does.0 in cc)
+fault_ends_so k s (drills d) old new before after Beyond does told =
+    absurd (let is = does.0 in cc)
+fault_ends_so k s (drills d) old new before after Reading does told =
+    absurd (let is = does.0 in cc)
+fault_ends_so k s (drills d) old new before after Writing does told =
+    absurd (let is = does.0 in cc)
+fault_ends_so k s (drills d) old new before after Lacking does told = (ap k.files does.1, told)
 fault_ends_so k s (shows session) old new before after (IsBad name kind line) does told =
     (record { name = name; kind = kind; line = line; first = does.0; text = told }, does.1)
 fault_ends_so k s (shows session) old new before after Beyond does told = absurd does.0
@@ -112,6 +126,7 @@ done_has_no_bad_file :
     IsDone asked (Some files) after Told → IsBadFor asked (Some files) name kind line → ⊥
 done_has_no_bad_file (renders r) files after Told name kind line named done bad =
     run_or_bad files (named_of r) done.contents name kind line named done.run.holds bad
+done_has_no_bad_file (drills d) files after Told name kind line named done bad = bad
 done_has_no_bad_file (shows session) files after Told name kind line named done bad =
     loaded_or_bad files session done.0.settings done.0.lists name kind line done.0.loaded bad
 
@@ -124,6 +139,7 @@ unwritten_has_no_bad_file k (renders r) old new files name kind line named told 
     run_or_bad files (named_of r) cannot.first.contents name kind line named
     (subst (λ before. IsRunOf before (named_of r) cannot.first.contents) told cannot.first.run).holds
     bad
+unwritten_has_no_bad_file k (drills d) old new files name kind line named told cannot bad = bad
 unwritten_has_no_bad_file k (shows session) old new files name kind line named told cannot bad =
     cannot
 
@@ -134,6 +150,7 @@ beyond_has_no_bad_file :
     IsBadFor asked (Some files) name kind line → ⊥
 beyond_has_no_bad_file (renders r) files name kind line named beyond bad =
     run_or_bad files (named_of r) beyond.contents name kind line named beyond.holds bad
+beyond_has_no_bad_file (drills d) files name kind line named beyond bad = bad
 beyond_has_no_bad_file (shows session) files name kind line named beyond bad = beyond
 
 -- a command that is done is within the limits
@@ -143,6 +160,7 @@ done_is_within :
     IsBeyondFor asked (Some files) → ⊥
 done_is_within (renders r) files after Told named done beyond =
     run_or_limit files (named_of r) done.contents named done.run beyond
+done_is_within (drills d) files after Told named done beyond = beyond
 done_is_within (shows session) files after Told named done beyond = beyond
 
 -- and so is one that couldn't write
@@ -153,6 +171,7 @@ unwritten_is_within :
 unwritten_is_within k (renders r) old new files named told cannot beyond =
     run_or_limit files (named_of r) cannot.first.contents named
     (subst (λ before. IsRunOf before (named_of r) cannot.first.contents) told cannot.first.run) beyond
+unwritten_is_within k (drills d) old new files named told cannot beyond = beyond
 unwritten_is_within k (shows session) old new files named told cannot beyond = beyond
 
 -- where there is a bad file, the status is one of three

@@ -2,7 +2,7 @@
 use Rattle.std.proofs.Common.{◌≡◌, ℕ, zero, suc, ◌+◌, ◌<◌, ◌≤◌, List, [], ◌∷◌, length, map, drop, get_or, refl, sym, ap, ap₂, ◌∙◌, arith}
 use Rattle.std.specs.Prelude.{Some, None}
 use Rattle.std.specs.Option.{option_and_then}
-use Rattle.looper_cli.specs.Words.{Given, none_given, with_option, options_in, run_named, render_in}
+use Rattle.looper_cli.specs.Words.{Given, none_given, with_option, options_in, run_named, render_in, drill_in}
 
 -- one word alone is no option
 pub one_left : {X : Type 0} (text : X → List ℕ) (words : List X) (at : ℕ) (g : Given) →
@@ -47,3 +47,17 @@ short_render text [] short = refl
 short_render text (a ∷ []) short = refl
 short_render text (a ∷ b ∷ []) short = refl
 short_render text (a ∷ b ∷ c ∷ words) short = absurd (omega arith)
+
+-- fewer than two words make no drill, nor do more
+pub short_drill : {X : Type 0} (text : X → List ℕ) (words : List X) → length words < 2 →
+    drill_in (map text words) ≡ None
+short_drill text [] short = refl
+short_drill text (a ∷ []) short = refl
+short_drill text (a ∷ b ∷ words) short = absurd (omega arith)
+
+pub long_drill : {X : Type 0} (text : X → List ℕ) (words : List X) → 3 ≤ length words →
+    drill_in (map text words) ≡ None
+long_drill text [] long = absurd (omega arith)
+long_drill text (a ∷ []) long = absurd (omega arith)
+long_drill text (a ∷ b ∷ []) long = absurd (omega arith)
+long_drill text (a ∷ b ∷ c ∷ words) long = refl

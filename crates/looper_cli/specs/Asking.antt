@@ -4,9 +4,13 @@ use Rattle.std.specs.Prelude.{◌≤◌, ℕ, length, Option, IfSome}
 use Rattle.sl_base.specs.Limits.{max_period, max_chunks, max_loops, max_session_name}
 use Rattle.looper_cli.specs.Words.{RenderAsked, Given}
 
--- a number that was given lies from 1 to the most
+-- a number that was given lies from the least to the most
+abbrev pub IsBetween : ℕ → ℕ → Option ℕ → Type 0
+IsBetween least most given = IfSome given (λ n. (least ≤ n) × (n ≤ most))
+
+-- and so from 1 on
 abbrev pub IsUpTo : ℕ → Option ℕ → Type 0
-IsUpTo most given = IfSome given (λ n. (1 ≤ n) × (n ≤ most))
+IsUpTo most given = IsBetween 1 most given
 
 -- options in their ranges
 pub record AreOptions (g : Given) : Type 0 where

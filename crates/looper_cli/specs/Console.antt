@@ -1,9 +1,9 @@
 -- What a run tells the console, a text of lines. The last one is that of the status.
 -- A run that is done tells before it its replies and numbers, and a bad file is named before it
--- with its fault and its line. A session that was looked at has a line for each loop. Want of
--- memory tells nothing. "The console" in docs/formats.md.
+-- with its fault and its line. A drill tells one line of numbers. A session that was looked at has
+-- a line for each loop. Want of memory tells nothing. "The console" in docs/formats.md.
 use Rattle.std.specs.Prelude.{◌≡◌, ℕ, ◌+◌, List, ◌∷◌, [], ◌++◌, length, sum_by, codes}
-use Rattle.std.specs.Fmt.{decimal}
+use Rattle.std.specs.Fmt.{decimal, signed_decimal}
 use Rattle.std.specs.Io.KnownBytes.{Appends}
 use Rattle.sl_base.specs.Counting.{Rose}
 use Rattle.sl_commands.specs.declared.StripSettings.{StripSettings}
@@ -11,6 +11,9 @@ use Rattle.sl_commands.specs.Settings.{LooperSettings}
 use Rattle.sl_ports.specs.Effects.{TellsTo}
 use Rattle.sl_ports.specs.Texts.{AppendsPrefix}
 use Rattle.sl_ports.specs.declared.sinks.Sink.{Ghosts as Sink}
+use Rattle.ring_world.specs.declared.summary.Summary.{Summary}
+use Rattle.ring_world.specs.Drills.{drill_summary}
+use Rattle.looper_cli.specs.Words.{DrillAsked}
 use Rattle.looper_cli.specs.Statuses.{status_line}
 use Rattle.looper_cli.specs.declared.status.RunFault.{RunFault}
 use Rattle.looper_cli.specs.declared.status.RunFault.TheVariants.{BadFile as IsBad, Limit as Beyond, Reading, Writing, Memory as Lacking}
@@ -30,6 +33,33 @@ bad_file_text name kind line =
 -- of a run that is done, behind its replies and numbers
 abbrev pub done_text : List ℕ → List ℕ
 done_text text = text ++ status_line Done
+
+-- the words that asked for a drill
+abbrev pub drill_words : DrillAsked → List ℕ
+drill_words d =
+    codes "drill " ++ (decimal d.number ++ (codes " " ++ (decimal d.steps ++ codes " ")))
+
+-- the first of its numbers
+abbrev pub first_numbers : Summary → List ℕ
+first_numbers s =
+    codes "accepted " ++ (decimal s.accepted ++ (codes " full " ++ (decimal s.full
+    ++ (codes " stamped " ++ (decimal s.stamped ++ (codes " frames " ++ (decimal s.frames
+    ++ codes " ")))))))
+
+-- and the others
+abbrev pub last_numbers : Summary → List ℕ
+last_numbers s =
+    codes "replies " ++ (decimal s.replies ++ (codes " saves " ++ (decimal s.saves
+    ++ (codes " refused " ++ (decimal s.refused ++ (codes " left " ++ (signed_decimal s.left
+    ++ (10 ∷ []))))))))
+
+-- the line of a drill's numbers
+abbrev pub drill_line : DrillAsked → Summary → List ℕ
+drill_line d s = drill_words d ++ (first_numbers s ++ last_numbers s)
+
+-- of a drill that is done: the numbers behind the steps that its number makes
+abbrev pub drill_text : DrillAsked → List ℕ
+drill_text d = done_text (drill_line d (drill_summary d.number d.steps))
 
 -- the line of a session's loop of this index
 abbrev pub loop_line : ℕ → StripSettings → List ℕ

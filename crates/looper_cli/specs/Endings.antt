@@ -1,7 +1,8 @@
 -- How a command ends, by its status.
 -- - Done: of `render`, the files of all saves of the run are written in their order, and OUT last,
---   every other file is as before, and the console has the run's replies and numbers. Of `show`,
---   the console has the session's loops, and no file changed. No count rose.
+--   every other file is as before, and the console has the run's replies and numbers. Of `drill`,
+--   the console has its numbers, and of `show` the session's loops, and no file changed. No count
+--   rose.
 -- - BadFile: the console names the first bad file. No file changed.
 -- - Limit: all files are good, and IN is too long or the lists need too many chunks. No file
 --   changed.
@@ -43,9 +44,9 @@ use Rattle.save_feeding.specs.declared.stopped.Stopped.TheVariants.{Writing as U
 use Rattle.run_files.specs.AllFiles.{Contents, IsRunOf, ExceedsLimit, FirstBad}
 use Rattle.run_files.specs.declared.run.FilesFault.{FilesFault}
 use Rattle.run_files.specs.declared.run.FilesFault.TheVariants.{File as BadOne, Read as NotRead, Memory as NoRoom, Limit as TooMuch}
-use Rattle.looper_cli.specs.Words.{RenderAsked, Asked, renders, shows}
+use Rattle.looper_cli.specs.Words.{RenderAsked, DrillAsked, Asked, renders, drills, shows}
 use Rattle.looper_cli.specs.Named.{named_of}
-use Rattle.looper_cli.specs.Console.{bad_file_text, done_text, show_text}
+use Rattle.looper_cli.specs.Console.{bad_file_text, done_text, drill_text, show_text}
 use Rattle.looper_cli.specs.Statuses.{status_line, status_of}
 use Rattle.looper_cli.specs.declared.status.RunFault.{RunFault}
 use Rattle.looper_cli.specs.declared.status.RunFault.TheVariants.{BadFile as IsBad, Limit as Beyond, Reading, Writing, Memory as Lacking}
@@ -186,25 +187,34 @@ LooksAt k session old new (Ok text) = Shows session (k.files old) (λ said. stri
     × StaysWhole k old new
 LooksAt k session old new (Err fault) = FailsToShow k session old new fault
 
+-- what a drill tells, by its answer: its numbers, or a want of memory
+abbrev pub Drills : DrillAsked → Result (String Global) RunFault → Type 0
+Drills d (Ok text) = string_bytes text ≡ drill_text d
+Drills d (Err fault) = fault ≡ Lacking
+
 -- what a command does to the keeper's files, by its answer
 abbrev pub Does : {P : Type 0} → Keeper P → Asked → P → P → Result (String Global) RunFault → Type 0
 Does k (renders r) old new result = Leaves k r old new result
+Does k (drills d) old new result = Drills d result × (new ≡ old)
 Does k (shows session) old new result = LooksAt k session old new result
     × (k.files new ≡ k.files old)
 
 -- a command that is done: the files that it leaves, and what it tells
 abbrev pub IsDone : Asked → Option Files → Option Files → (List ℕ → Type 0) → Type 0
 IsDone (renders r) before after Says = Renders r before after Says
+IsDone (drills d) before after Says = Says (drill_text d) × (after ≡ before)
 IsDone (shows session) before after Says = Shows session before Says × (after ≡ before)
 
 -- a command's first bad file, with the number of what is wrong and its line
 abbrev pub IsBadFor : Asked → Option Files → List ℕ → ℕ → ℕ → Type 0
 IsBadFor (renders r) files name kind line = FirstBad files (named_of r) name kind line
+IsBadFor (drills d) files name kind line = ⊥
 IsBadFor (shows session) files name kind line = FirstBadFile files session name kind line
 
 -- a command's files are good, and a limit is exceeded
 abbrev pub IsBeyondFor : Asked → Option Files → Type 0
 IsBeyondFor (renders r) files = ExceedsLimit files (named_of r)
+IsBeyondFor (drills d) files = ⊥
 IsBeyondFor (shows session) files = ⊥
 
 -- the first bad file is told so
@@ -218,11 +228,13 @@ pub record NamesBad (asked : Asked) (files : Option Files) (Says : List ℕ → 
 -- a command couldn't write a file
 abbrev pub CannotWrite : {P : Type 0} → Keeper P → Asked → P → P → Type 0
 CannotWrite k (renders r) old new = FailsToWrite k r old new
+CannotWrite k (drills d) old new = ⊥
 CannotWrite k (shows session) old new = ⊥
 
 -- no file changed, or the first files of a run are written
 abbrev pub WritesAtMost : Asked → Option Files → Option Files → Type 0
 WritesAtMost (renders r) before after = (after ≡ before) ⊎ RendersFirst r before after
+WritesAtMost (drills d) before after = after ≡ before
 WritesAtMost (shows session) before after = after ≡ before
 
 -- what holds where a command ends with a status

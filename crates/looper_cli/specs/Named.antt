@@ -3,14 +3,15 @@
 -- "The words of the command line" in docs/formats.md.
 use Rattle.std.specs.Prelude.{◌≡◌, ⊤, Option, Some, None, Result, Ok, Err}
 use Rattle.run_files.specs.Named.{Named, IsNamed}
-use Rattle.looper_cli.specs.Words.{RenderAsked, Asked, renders, shows}
+use Rattle.looper_cli.specs.Words.{RenderAsked, Asked, renders, drills, shows}
 use Rattle.looper_cli.specs.declared.words.Words.{Words}
-use Rattle.looper_cli.specs.declared.words.Words.TheVariants.{Render as RenderWords, Show as ShowWords}
+use Rattle.looper_cli.specs.declared.words.Words.TheVariants.{Render as RenderWords, Drill as DrillWords, Show as ShowWords}
 use Rattle.looper_cli.specs.declared.words.WordsFault.{WordsFault}
 
 -- what a command asks for
 abbrev pub asked_by : Words → Asked
 asked_by (RenderWords r) = renders r
+asked_by (DrillWords d) = drills d
 asked_by (ShowWords name) = shows name
 
 -- the answer is what is asked for, or a fault where nothing is
@@ -32,4 +33,5 @@ named_of r = record {
 -- what a command names is within its ranges
 abbrev pub IsNamedBy : Asked → Type 0
 IsNamedBy (renders r) = IsNamed (named_of r)
+IsNamedBy (drills d) = ⊤
 IsNamedBy (shows session) = ⊤

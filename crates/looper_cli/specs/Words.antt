@@ -1,9 +1,10 @@
--- The words of the command line are `render IN JOURNAL OUT` with options behind them, or `show
--- NAME`, byte for byte. The options of `render` are `--period N` (1 to 8192), `--chunks N` (1 to
--- 32768), `--loops N` (1 to 16) and `--session NAME`, each two words, in any order and each at most
--- once; `--loops` and `--session` exclude each other. Where one isn't given, the period is 1024,
--- there are 4096 chunks and one loop, and no session. A number is decimal, without a sign or a
--- leading zero. IN, JOURNAL and OUT are names, and the name of a session has at most 48 bytes.
+-- The words of the command line are `render IN JOURNAL OUT` with options behind them, `drill NUMBER
+-- STEPS`, or `show NAME`, byte for byte. The options of `render` are `--period N` (1 to 8192),
+-- `--chunks N` (1 to 32768), `--loops N` (1 to 16) and `--session NAME`, each two words, in any
+-- order and each at most once; `--loops` and `--session` exclude each other. Where one isn't given,
+-- the period is 1024, there are 4096 chunks and one loop, and no session. A number is decimal,
+-- without a sign or a leading zero. NUMBER goes from 0 to 4294967295, and STEPS from 1 to 1000000.
+-- IN, JOURNAL and OUT are names, and the name of a session has at most 48 bytes.
 -- "The words of the command line" in docs/formats.md.
 use Rattle.std.specs.Prelude.{ℕ, Bool, ◌&&◌, List, [], ◌∷◌, length, nat_le, Option, Some, None, is_some, if◌then◌else◌, codes}
 use Rattle.std.specs.Option.{option_map, option_and_then}
@@ -12,6 +13,7 @@ use Rattle.std.specs.Str.Parse.{digits_value}
 use Rattle.sl_base.specs.Limits.{max_session_name, max_period, max_chunks, max_loops}
 use Rattle.sl_base.specs.Names.{is_name}
 use Rattle.text_lines.specs.Numerals.{is_numeral}
+use Rattle.ring_world.specs.Drills.{max_drill_steps}
 
 -- what a run of `render` is asked for
 pub record RenderAsked : Type 0 where
@@ -23,9 +25,15 @@ pub record RenderAsked : Type 0 where
   pub loops : ℕ
   pub session : Option (List ℕ)
 
--- what words ask for: a run, or a look at a session of this name
+-- what a drill is asked for
+pub record DrillAsked : Type 0 where
+  pub number : ℕ
+  pub steps : ℕ
+
+-- what words ask for: a run, a drill, or a look at a session of this name
 pub data Asked : Type 0 where
   renders : RenderAsked → Asked
+  drills : DrillAsked → Asked
   shows : List ℕ → Asked
 
 -- the options that were given
@@ -38,11 +46,16 @@ pub record Given : Type 0 where
 abbrev pub none_given : Given
 none_given = record { period = None; chunks = None; loops = None; session = None }
 
--- the number from 1 to the most that a word spells
-abbrev pub number_in : ℕ → List ℕ → Option ℕ
-number_in most word =
-    if is_numeral word && nat_le 1 (digits_value 10 word) && nat_le (digits_value 10 word) most then
+-- the number from the least to the most that a word spells
+abbrev pub number_between : ℕ → ℕ → List ℕ → Option ℕ
+number_between least most word =
+    if is_numeral word && nat_le least (digits_value 10 word)
+    && nat_le (digits_value 10 word) most then
     Some (digits_value 10 word) else None
+
+-- the number from 1 on
+abbrev pub number_in : ℕ → List ℕ → Option ℕ
+number_in most word = number_between 1 most word
 
 -- the word is the name of a session
 abbrev pub is_session_word : List ℕ → Bool
@@ -106,6 +119,17 @@ render_in (input ∷ journal ∷ out ∷ words) =
     run_named input journal out (options_in words none_given)
 render_in _ = None
 
+-- the drill of two numbers, where there are such
+abbrev pub drill_with : Option ℕ → Option ℕ → Option Asked
+drill_with (Some number) (Some steps) = Some (drills (record { number = number; steps = steps }))
+drill_with _ _ = None
+
+-- what words behind `drill` ask for
+abbrev pub drill_in : List (List ℕ) → Option Asked
+drill_in (number ∷ steps ∷ []) =
+    drill_with (number_between 0 4294967295 number) (number_in max_drill_steps steps)
+drill_in _ = None
+
 -- what words behind `show` ask for
 abbrev pub show_in : List (List ℕ) → Option Asked
 show_in (name ∷ []) = option_map shows (session_in name)
@@ -116,4 +140,5 @@ abbrev pub asked_in : List (List ℕ) → Option Asked
 asked_in [] = None
 asked_in (first ∷ words) =
     if bytes_eq first (codes "render") then render_in words else
+    if bytes_eq first (codes "drill") then drill_in words else
     if bytes_eq first (codes "show") then show_in words else None

@@ -9,6 +9,8 @@
 //! - What is heard, told and saved is the run of the rules over what the files held, whatever the
 //!   period.
 //! - The console is told last, by calls that take no memory.
+//! - `drill` runs the steps that a number makes, and gives the line of their numbers. It touches no
+//!   file.
 //! - `show` loads a session, and gives the text that tells of its loops. It writes nothing.
 //!
 //! Begin with `top`, then `render`; `words` and `options` read what a run is asked for, and
@@ -18,6 +20,7 @@
 #![tactic(auto)]
 
 mod console;
+mod drill;
 mod options;
 mod render;
 mod show;
@@ -27,4 +30,4 @@ mod words;
 
 pub use status::Status;
 pub use top::plain_run;
-pub use words::{Render, Show, Words, WordsFault, words_of};
+pub use words::{Drill, Render, Show, Words, WordsFault, words_of};

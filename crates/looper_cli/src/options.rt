@@ -4,8 +4,8 @@ ghost use Rattle.std.specs.Prelude.{◌≡◌, ◌≤◌, ℕ, List, map, length
 ghost use Rattle.std.specs.Option.{option_map};
 ghost use Rattle.std.specs.String.{string_bytes};
 ghost use Rattle.sl_base.specs.Limits.{max_period, max_chunks, max_loops, max_session_name};
-ghost use Rattle.looper_cli.specs.Words.{number_in, session_in, first_given, with_option, options_in, none_given};
-ghost use Rattle.looper_cli.specs.Asking.{IsUpTo};
+ghost use Rattle.looper_cli.specs.Words.{number_between, number_in, session_in, first_given, with_option, options_in, none_given};
+ghost use Rattle.looper_cli.specs.Asking.{IsBetween, IsUpTo};
 
 use sl_base::{MAX_CHUNKS, MAX_LOOPS, MAX_PERIOD, MAX_SESSION_NAME, Name};
 use std::marker::Model;
@@ -33,14 +33,14 @@ impl Model for Options {
         (record { period = o.period; chunks = o.chunks; loops = o.loops; session = o.session }) };
 }
 
-/// The number from 1 to `most` that a word spells.
+/// The number from `least` to `most` that a word spells.
 #[tactic(auto, using(crate::proofs::WordsLemmas::spelled_in, crate::proofs::WordsLemmas::spelled_out, crate::proofs::WordsLemmas::unspelled))]
-fn number_of(most: u32, word: &[u8]) -> Option<u32>
-    ensures value { result ≡ number_in most word.now }
-    ensures within { IsUpTo most result }
+pub fn number_between(least: u32, most: u32, word: &[u8]) -> Option<u32>
+    ensures value { result ≡ number_between least most word.now }
+    ensures within { IsBetween least most result }
 {
     match read_numeral(word) {
-        Some(number) => if 1 <= number && number <= most as u64 {
+        Some(number) => if least as u64 <= number && number <= most as u64 {
             Some(number as u32)
         } else {
             None
@@ -56,7 +56,7 @@ fn number_once(given: Option<u32>, most: u32, word: &[u8]) -> Option<u32>
 {
     match given {
         Some(_) => None,
-        None => number_of(most, word),
+        None => number_between(1, most, word),
     }
 }
 

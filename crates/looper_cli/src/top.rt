@@ -13,6 +13,7 @@ ghost use Rattle.looper_cli.specs.Words.{asked_in};
 ghost use Rattle.looper_cli.specs.declared.status.Status.TheVariants.{Words as Other, ReadFault, WriteFault, Limit};
 
 use crate::console::{tell, tell_done, tell_fault};
+use crate::drill::drill;
 use crate::render::render;
 use crate::show::show;
 use crate::status::{RunFault, Status};
@@ -28,6 +29,7 @@ fn run<P: Keeper>(alloc: Global, keeper: &mut P, words: &Words) -> Result<String
 {
     match words {
         Words::Render(asked) => render(alloc, keeper, asked),
+        Words::Drill(asked) => drill(alloc, asked),
         Words::Show(session) => show(alloc, keeper, session),
     }
 }
@@ -54,7 +56,8 @@ fn run_and_tell<P: Keeper, C: Sink>(
 ///
 /// `render IN JOURNAL OUT` plays the WAV file IN into the loops by the commands of JOURNAL, writes
 /// the files of all saves, and at last what is heard to the WAV file OUT. OUT may be one of the
-/// others. `show NAME` tells a session's loops. Statuses: 0 done, 2 other words, 3 a bad file, 4 a
+/// others. `drill NUMBER STEPS` runs the steps that its number makes, and tells its numbers. `show
+/// NAME` tells a session's loops. Statuses: 0 done, 2 other words, 3 a bad file, 4 a
 /// reading failed, 5 a write failed, 8 out of memory, 9 a limit is exceeded.
 pub fn plain_run<P: Keeper, C: Sink>(
     alloc: Global,
@@ -68,8 +71,8 @@ pub fn plain_run<P: Keeper, C: Sink>(
     ensures words { (result ≡ 2) ↔ (asked_in (map string_bytes words.now) ≡ None) }
     ensures words_text { result ≡ 2 → TellsTo C.Sink console.old console.new (status_line Other) }
 
-    // At 0, the files of the run's saves and OUT are written and its replies told, or the session's
-    // loops are told; no count rose.
+    // At 0, the files of the run's saves and OUT are written and its replies told, or the drill's
+    // numbers or the session's loops are told; no count rose.
     ensures done { result ≡ 0 → IfSome (asked_in (map string_bytes words.now)) (λ asked.
         IsDone asked (P.files keeper.old) (P.files keeper.new)
         (Appends (C.held console.old) (C.held console.new))) }

@@ -3,10 +3,13 @@
 ghost use Rattle.std.specs.Prelude.{◌≡◌, ◌∷◌, map, List, ℕ};
 ghost use Rattle.std.specs.String.{string_bytes};
 ghost use Rattle.run_files.specs.Named.{IsNamed};
-ghost use Rattle.looper_cli.specs.Words.{run_with, run_named, render_in, show_in, asked_in};
+ghost use Rattle.looper_cli.specs.Words.{run_with, run_named, render_in, drill_with, drill_in, show_in, asked_in};
+ghost use Rattle.ring_world.specs.Drills.{max_drill_steps};
+ghost use Rattle.looper_cli.specs.Asking.{IsUpTo};
 ghost use Rattle.looper_cli.specs.Named.{GivesAsked, named_of};
 
-use crate::options::{Options, options_of, session_of};
+use crate::options::{Options, number_between, options_of, session_of};
+use ring_world::MAX_DRILL_STEPS;
 use run_files::Sources;
 use sl_base::Name;
 use std::marker::Model;
@@ -83,6 +86,27 @@ fn same_name(name: &Option<Name>) -> Option<Name>
     }
 }
 
+/// What `drill` is asked for.
+#[derive(Drop)]
+pub struct Drill {
+    /// What the steps and the input are made from.
+    pub number: u32,
+    /// How many steps there are, 1 to 1000000.
+    pub steps: u32,
+}
+
+impl Model for Drill {
+    ghost use Rattle.std.specs.Prelude.{◌≤◌};
+    ghost use Rattle.ring_world.specs.Drills.{max_drill_steps};
+    ghost use Rattle.looper_cli.specs.Words.{DrillAsked};
+
+    ghost Value = { DrillAsked };
+
+    ghost view = { λ d. record { number = d.number; steps = d.steps } };
+
+    ghost invariant = { λ d. d.steps ≤ max_drill_steps };
+}
+
 /// The session that `show` looks at.
 #[derive(Drop)]
 pub struct Show {
@@ -106,6 +130,8 @@ impl Model for Show {
 pub enum Words {
     /// `render IN JOURNAL OUT` with its options.
     Render(Render),
+    /// `drill NUMBER STEPS`.
+    Drill(Drill),
     /// `show NAME`.
     Show(Show),
 }
@@ -114,7 +140,7 @@ pub enum Words {
 #[derive(Clone, Copy, Debug, PartialEq, Eq, Error)]
 pub enum WordsFault {
     /// They aren't in the grammar.
-    #[error("the words are neither `render IN JOURNAL OUT` with its options nor `show NAME`")]
+    #[error("the words are none of `render IN JOURNAL OUT`, `drill NUMBER STEPS`, `show NAME`")]
     Words,
 }
 
@@ -175,6 +201,33 @@ fn render_of(words: &[String]) -> Result<Words, WordsFault>
     )
 }
 
+/// The drill of two numbers.
+fn drill_with(number: Option<u32>, steps: Option<u32>) -> Result<Words, WordsFault>
+    requires { IsUpTo max_drill_steps steps }
+    ensures { GivesAsked (drill_with number steps) result }
+{
+    let Some(number) = number else {
+        return Err(WordsFault::Words);
+    };
+    let Some(steps) = steps else {
+        return Err(WordsFault::Words);
+    };
+    Ok(Words::Drill(Drill { number, steps }))
+}
+
+/// The drill that the words behind `drill` ask for.
+fn drill_of(words: &[String]) -> Result<Words, WordsFault>
+    ensures { GivesAsked (drill_in (map string_bytes words.now)) result }
+{
+    match words {
+        [number, steps] => drill_with(
+            number_between(0, u32::MAX, number.as_bytes()),
+            number_between(1, MAX_DRILL_STEPS, steps.as_bytes()),
+        ),
+        _ => Err(WordsFault::Words),
+    }
+}
+
 /// The session that the words behind `show` name.
 fn show_of(words: &[String]) -> Result<Words, WordsFault>
     ensures { GivesAsked (show_in (map string_bytes words.now)) result }
@@ -189,7 +242,7 @@ fn show_of(words: &[String]) -> Result<Words, WordsFault>
 }
 
 /// What the words ask for: `render IN JOURNAL OUT` with options behind it in any order, each at
-/// most once, or `show NAME`, byte for byte.
+/// most once, `drill NUMBER STEPS`, or `show NAME`, byte for byte.
 pub fn words_of(words: &[String]) -> Result<Words, WordsFault>
     ensures { GivesAsked (asked_in (map string_bytes words.now)) result }
 {
@@ -198,6 +251,9 @@ pub fn words_of(words: &[String]) -> Result<Words, WordsFault>
     };
     if first.as_bytes() == b"render".as_slice() {
         return render_of(rest);
+    }
+    if first.as_bytes() == b"drill".as_slice() {
+        return drill_of(rest);
     }
     if first.as_bytes() == b"show".as_slice() {
         return show_of(rest);

@@ -27,7 +27,8 @@ pub no_step_more : (steps : List Step) (state count done : ℕ) (all : List Step
     steps ++ steps_from state (count - done) ≡ all → steps ≡ all
 no_step_more steps state count done all none is =
     sym (append-nil steps)
-    ∙ ap (λ n. steps ++ steps_from state n) (let zero_left : 0 ≡ count - done = omega arith in zero_left)
+    ∙ ap (λ n. steps ++ steps_from state n)
+    (let zero_left : 0 ≡ count - done = omega arith in zero_left)
     ∙ is
 
 -- one frame more

@@ -185,7 +185,8 @@ outcomes_are (Part save index frames ∷ bs) before o rest is = outcomes_are bs 
 outcomes_are (End save ∷ bs) [] o rest is =
     let same : 0 ∷ outcomes_in bs ≡ o ∷ rest = is in cc
 outcomes_are (End save ∷ bs) (x ∷ before) o rest is =
-    outcomes_are bs before o rest (let same : 0 ∷ outcomes_in bs ≡ x ∷ (before ++ o ∷ rest) = is in cc)
+    outcomes_are bs before o rest
+    (let same : 0 ∷ outcomes_in bs ≡ x ∷ (before ++ o ∷ rest) = is in cc)
 
 -- as many outcomes as ends
 outcome_count : (bs : List Block) → length (outcomes_in bs) ≡ ends_in bs
@@ -409,7 +410,8 @@ put_block_keeps b input (Some x) true w is h =
       midi = omega arith;
     }
 
-pub outcomes-append : (xs ys : List Block) → outcomes_in (xs ++ ys) ≡ outcomes_in xs ++ outcomes_in ys
+pub outcomes-append : (xs ys : List Block) →
+    outcomes_in (xs ++ ys) ≡ outcomes_in xs ++ outcomes_in ys
 outcomes-append [] ys = refl
 outcomes-append (x ∷ xs) ys =
     ap (λ os. outcome_of x ++ os) (outcomes-append xs ys)

@@ -1,5 +1,4 @@
--- Steps one after another keep a world in step. A drill never goes beyond a quota or the frames of a
--- session.
+-- Steps one after another keep a world in step, and one step more leads on from where they led.
 use Rattle.std.proofs.Common.{◌≡◌, ℕ, zero, suc, ◌+◌, ◌<◌, List, [], ◌∷◌, ◌++◌, length, drop, refl, sym, ap, ◌∙◌, subst, arith, append_assoc, append-nil}
 use Rattle.std.specs.Prelude.{slice_index_or}
 use Rattle.sl_base.specs.Sounds.{Sound}

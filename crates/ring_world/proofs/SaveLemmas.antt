@@ -74,8 +74,8 @@ pub kept_on : {P : Type 0} (k : Keeper P) (first old new : P) (s t : SaverOf) (w
 kept_on k first old new s t w next x answer kept rate accepts whole same is =
     let taken = w.blocks.taken
     in let one = one_kept k s.rate x s.saving t.saving old new answer accepts
-    in let all : Keeps k s.rate (taken ++ x ∷ []) None first (outcomes_in taken ++ outcome_in answer)
-    t.saving new =
+    in let all : Keeps k s.rate (taken ++ x ∷ []) None first
+    (outcomes_in taken ++ outcome_in answer) t.saving new =
     keeps_then k s.rate taken (x ∷ []) None s.saving t.saving first old new (outcomes_in taken)
     (outcome_in answer) kept.keeps one
     in let outs : outcomes_in taken ++ outcome_in answer ≡ outcomes_in (taken ++ x ∷ []) =

@@ -1,5 +1,5 @@
--- A step is one put, one take, or some frames. Each has an outcome, and changes the lists only where
--- it is done, but that a command that finds its ring full is counted.
+-- A step is one put, one take, or some frames. Each has an outcome, and changes the lists only
+-- where it is done, but that a command that finds its ring full is counted.
 -- - A command is put, or its ring is full.
 -- - Nothing is taken for the engine while a reply is held. A command that is taken is stamped and
 --   applied. An outcome is taken as the release of the oldest save that no release has answered. A

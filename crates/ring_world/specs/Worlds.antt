@@ -46,8 +46,8 @@ passed w =
       blocks = sent w.blocks;
     }
 
--- what contracts see of a world: its number, its lists, its saver with the keeper in memory that the
--- saver writes to, and whether a step wanted memory
+-- what contracts see of a world: its number, its lists, its saver with the keeper in memory that
+-- it writes to, and whether a step wanted memory
 pub record WorldOf : Type 0 where
   pub number : ℕ
   pub lists : Lists

@@ -53,7 +53,8 @@ pub fn a_save_passes_the_rings()
     } }
 {}
 
-/// A ring of one reply is full: the next reply is held, and the engine takes nothing until it is put.
+/// A ring of one reply is full: the next reply is held, and the engine takes nothing until that is
+/// put.
 pub fn a_held_reply_holds_the_engine()
     ensures outcomes { outcomes_of held_steps 0 narrow_lists ≡ held_outcomes }
     ensures replies { (ran held_steps 0 narrow_lists).replies.taken ≡ held_replies }

@@ -6,9 +6,9 @@
 //! - A step is one put, one take, or some frames. What it leaves and its outcome are one definition
 //!   by cases (`did`, in `specs/Stepping`), and `World::step` does exactly that. So every
 //!   interleaving of the activities of a session is a list that can be written down.
-//! - Every list of steps leaves the world in step (`IsInStep`): output, replies, saves and blocks are
-//!   those of the run of the journal, and the journal has the commands that were taken. The saver
-//!   has accepted exactly the blocks that were taken, and the outcomes are one for each end.
+//! - Every list of steps leaves the world in step (`IsInStep`): output, replies, saves and blocks
+//!   are those of the run of the journal, and the journal has the commands that were taken. The
+//!   saver has accepted exactly the blocks that were taken, and the outcomes are one for each end.
 //! - Where a step wants memory, the lists are as before, and so does every later step.
 //! - `steps_of` makes steps from a number, and `drill` gives the numbers behind them.
 //!

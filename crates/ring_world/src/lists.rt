@@ -12,8 +12,8 @@ use sl_commands::{Block, Command, Reply};
 use std::alloc::Global;
 
 /// An engine with its five rings, as lists: commands of senders 0 and 1, outcomes of saves, replies
-/// and blocks. A reply that found its ring full is held. Outcomes are remembered until they are put.
-/// `full` counts the commands that found their ring full. Output is kept whole.
+/// and blocks. A reply that found its ring full is held. Outcomes are remembered until they are
+/// put. `full` counts the commands that found their ring full. Output is kept whole.
 #[derive(Drop)]
 pub struct Lists {
     pub engine: Engine,

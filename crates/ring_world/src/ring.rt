@@ -39,8 +39,8 @@ impl<T: Drop> Ring<T> {
         })
     }
 
-    /// Puts an item behind those that wait, where there is room, and tells whether it did. No memory
-    /// is taken.
+    /// Puts an item behind those that wait, where there is room, and tells whether it did. No
+    /// memory is taken.
     pub fn put(&mut self, item: T) -> bool
         ensures room { result ≡ has_room self.old }
         ensures done { IsTrue result → self.new ≡ put_on item self.old }
