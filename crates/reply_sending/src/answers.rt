@@ -20,7 +20,7 @@ fn text_arg(text: &str) -> OutArg
 }
 
 /// Writes a reply, on a return path, over an empty buffer.
-pub(crate) fn write_reply(out: &mut ArrayVec<u8, MAX_MESSAGE>, path: &ReturnPath, reply: Reply)
+pub fn write_reply(out: &mut ArrayVec<u8, MAX_MESSAGE>, path: &ReturnPath, reply: Reply)
     requires { out.old.items ≡ [] }
     ensures { out.new.items ≡ reply_bytes path.now reply }
 {

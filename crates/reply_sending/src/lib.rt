@@ -19,5 +19,6 @@ mod post;
 #[cfg(test)]
 mod tests;
 
+pub use answers::write_reply;
 pub use laws::{what_asked_has_an_address, what_is_sent_in_parts_is_sent};
 pub use post::{return_for, send_pongs, send_reply};

@@ -1,0 +1,4 @@
+pub mod PreparedLemmas
+pub mod RanLemmas
+pub mod TellingLemmas
+pub mod EndLemmas
