@@ -3,8 +3,8 @@
 //! - The two ends of each ring have met. What is left in the rings of OSC, MIDI and the saver is
 //!   given to the engine, what is left in the ring of blocks to the saver, and behind them the
 //!   blocks that the engine has left. Each reply is told, in order.
-//! - Nothing is skipped: no block is left behind it, and each save has its release, with the outcome
-//!   that the saver gave.
+//! - Nothing is skipped: no block is left behind it, and each save has its release, with the
+//!   outcome that the saver gave.
 //! - Entries that are made here have the number of frames done. No call takes memory but the saver,
 //!   whose want of it is the outcome of a save.
 //!
@@ -16,6 +16,8 @@ mod feeding;
 mod outcomes;
 mod replies;
 mod teller;
+#[cfg(test)]
+mod tests;
 mod whole;
 
 pub use teller::Teller;
