@@ -17,7 +17,7 @@
 
 mod hand;
 mod scenario;
-pub mod session;
+mod session;
 
 use crate::words::number;
 

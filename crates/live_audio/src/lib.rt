@@ -14,8 +14,6 @@
 mod blocks;
 mod play;
 mod takes;
-#[cfg(test)]
-mod tests;
 mod turn;
 
 pub use turn::{audio_turn, audio_turn_by};

@@ -37,7 +37,7 @@ pub fn sound(number: u32) -> Frame {
 }
 
 /// An engine with so many empty loops.
-pub fn begun(alloc: Global, loops: u8) -> Option<Engine>
+fn begun(alloc: Global, loops: u8) -> Option<Engine>
     requires some { 1 ≤ loops }
     requires few { loops ≤ 16 }
 {
