@@ -59,6 +59,7 @@ def main():
     write('multiply-and-insert', rate, [phrase, melody, answer, None, None, bass, None, None, None])
     write('two-loops', rate, [phrase, None, melody, None, None, None, None])
     write('saved-session', rate, [phrase, bass, None, None])
+    write('live', rate, [None, phrase, None, melody, None, None, None, None, None])
 
 
 main()
