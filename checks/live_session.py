@@ -143,14 +143,15 @@ class Live:
                 self.answers.append(osc.read(data))
                 self.changed.notify_all()
 
-    def wait(self, holds, what, seconds=WAIT):
+    def wait(self, holds, what, seconds=WAIT, pause=0.05):
+        """Waits until something holds. What isn't told by a thread is looked at after each pause."""
         with self.changed:
             end = time.monotonic() + seconds
             while not holds():
                 left = end - time.monotonic()
                 if left <= 0:
                     raise Failure('waited for %s in vain; it said: %s' % (what, self.told.strip()))
-                self.changed.wait(min(left, 0.05))
+                self.changed.wait(min(left, pause))
 
     def count(self, path):
         return sum(address == path for address, _ in self.answers)
@@ -222,7 +223,7 @@ class Live:
         before = (frame - self.period) * self.step
         self.feed(before + 1)
         self.wait(lambda: self.gone or self.child.poll() is not None or (len(self.out) >= before and self.unread() == 0),
-                  'the frames up to %d' % frame)
+                  'the frames up to %d' % frame, pause=0.0005)
 
     def at(self, frame, *texts):
         """Sends commands that act at this frame."""
@@ -231,9 +232,12 @@ class Live:
             self.do(text)
         self.heard()
 
-    def finish(self, close=True):
+    def finish(self, more=True, close=True):
         """Gives what is left of the audio, ends the input, and waits for the program's end. Gives its status."""
-        self.feed(len(self.audio))
+        if more:
+            self.feed(len(self.audio))
+        else:
+            self.feed(-(-self.given // self.step) * self.step)
         if close:
             self.child.stdin.close()
         return self.ended()
