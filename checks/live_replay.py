@@ -60,31 +60,34 @@ def judged(title, live, status, begun=(), passed_over=('journal.txt',), all_of_t
     return again
 
 
-def take(live, turns):
-    """Two loops with most of what can be done to them. `turns` is a list of frames, each a multiple of the period."""
-    frame = iter(turns)
-    live.at(next(frame), 'gset dry 300', 'set -1 feedback 900', 'hit 0 record', 'gget dry')
-    live.at(next(frame), 'hit 0 record', 'get 0 loop_len', 'hit 1 record', 'down 1 overdub')
-    live.at(next(frame), 'up 1 overdub', 'get 1 loop_len', 'hit 0 overdub', 'get 0 state')
-    live.at(next(frame), 'save 0 take.wav', 'get 0 layers')
-    live.at(next(frame), 'session set', 'save 1 other.wav', 'get -3 loop_pos')
-    live.at(next(frame), 'hit 0 overdub', 'hit 0 multiply', 'save 0 again.wav')
-    live.at(next(frame), 'hit 0 multiply', 'get 0 cycle_len', 'gset sync_source 1', 'set 1 quantize 1', 'hit 1 mute')
-    live.at(next(frame), 'get 1 waiting', 'hit 0 insert', 'hit -1 reverse')
-    live.at(next(frame), *['hit 0 undo'] * 20 + ['get 0 layers', 'get 0 redo_layers'])
-    live.at(next(frame), *['hit 0 redo'] * 3 + ['hit 0 oneshot', 'get 0 loop_len', 'session late'])
+def take(live):
+    """Two loops with most of what can be done to them, from the second period on. Some saves are waited for."""
+    step = 5 * live.period
+    frame = 2 * live.period
+    live.at(frame, 'gset dry 300', 'set -1 feedback 900', 'hit 0 record', 'gget dry')
+    live.at(frame + step, 'hit 0 record', 'get 0 loop_len', 'hit 1 record', 'down 1 overdub')
+    live.at(frame + 2 * step, 'up 1 overdub', 'get 1 loop_len', 'hit 0 overdub', 'get 0 state')
+    frame = live.at_answer(frame + 3 * step, 'save 0 take.wav')
+    live.at(frame, 'get 0 layers', 'get 0 state')
+    frame = live.at_answer(frame + live.period, 'session set')
+    live.at(frame, 'get 0 state', 'session other', 'save 1 other.wav', 'get -3 loop_pos')
+    live.at(frame + step, 'hit 0 overdub', 'hit 0 multiply', 'save 0 again.wav')
+    live.at(frame + 2 * step, 'hit 0 multiply', 'get 0 cycle_len', 'gset sync_source 1', 'set 1 quantize 1', 'hit 1 mute')
+    live.at(frame + 3 * step, 'get 1 waiting', 'hit 0 insert', 'hit -1 reverse')
+    live.at(frame + 4 * step, *['hit 0 undo'] * 20 + ['get 0 layers', 'get 0 redo_layers'])
+    live.at(frame + 5 * step, *['hit 0 redo'] * 3 + ['hit 0 oneshot', 'get 0 loop_len', 'session late'])
     live.do_all(['hit 0 replace', 'hit 0 replace'] * 10 + ['get 0 free_time', 'get 0 refused', 'save 0 last.wav', 'save 1 empty.wav'])
     live.heard()
+    live.play_to(frame + 7 * step)
 
 
 def run(title, folder, channels, period, chunks):
-    """One take, which ends with its input."""
-    turns = [period * (2 + 5 * number) for number in range(11)]
-    live = Live(PROGRAM, folder, noise(period, turns[-1] + 3 * period - 1, channels), channels, period,
+    """One take, which ends with its input, in the middle of a period."""
+    live = Live(PROGRAM, folder, noise(period, 1100 * period, channels), channels, period,
                 words=JOURNAL + ['--loops', '2', '--chunks', str(chunks)])
     try:
-        take(live, turns)
-        status = live.finish()
+        take(live)
+        status = live.finish(more=False)
     finally:
         live.stop()
     judged(title, live, status)
@@ -93,11 +96,12 @@ def run(title, folder, channels, period, chunks):
 def ended_by_quit(folder):
     """The turn in which the quit is taken is the last one. What is sent behind it is refused."""
     period = 128
-    live = Live(PROGRAM, folder, noise(5, 40 * period, 2), 2, period, words=JOURNAL)
+    live = Live(PROGRAM, folder, noise(5, 1100 * period, 2), 2, period, words=JOURNAL)
     try:
         live.at(period, 'hit 0 record')
-        live.at(8 * period, 'hit 0 record', 'session set')
-        live.at(16 * period, 'save 0 take.wav', 'get 0 loop_len', 'quit')
+        live.at(8 * period, 'hit 0 record', 'hit 0 overdub')
+        frame = live.at_answer(9 * period, 'session set') + period
+        live.at(frame, 'save 0 take.wav', 'get 0 loop_len', 'quit')
         kept = list(live.sent)
         for text in ('hit 0 overdub', 'get 0 state', 'save 0 late.wav', 'quit'):
             live.do(text)
@@ -107,7 +111,8 @@ def ended_by_quit(folder):
     finally:
         live.stop()
     again = judged('an end by /quit', live, status, files=3)
-    judge('the frames behind a quit', [] if again.closing.get('frames') == 17 * period else ['%s' % again.closing])
+    judge('the frames behind a quit', [] if again.closing.get('frames') == frame + period else ['%s' % again.closing])
+    judge('what is refused behind a quit', [] if live.refusals('OSC') == 4 else [live.told])
 
 
 def without_frames(folder):
@@ -135,7 +140,7 @@ def midi(folder, fifo):
         os.remove(path)
         os.mkfifo(path)
         pedal = os.open(path, os.O_RDWR)
-    live = Live(PROGRAM, folder, noise(9, 2000 * period, 2), 2, period,
+    live = Live(PROGRAM, folder, noise(9, 2100 * period, 2), 2, period,
                 words=JOURNAL + ['--midi', 'pedal', '--bind', 'bindings.txt', '--loops', '2'])
     try:
         live.at(period, 'hit 0 record')
@@ -177,16 +182,18 @@ def loaded(folder, begun):
     for name in begun:
         shutil.copy(begun[name], os.path.join(folder, name))
     period = 64
-    live = Live(PROGRAM, folder, noise(21, 60 * period, 2), 2, period, words=JOURNAL + ['--session', 'set'])
+    live = Live(PROGRAM, folder, noise(21, 2200 * period, 2), 2, period, words=JOURNAL + ['--session', 'set'])
     try:
         live.at(period, 'hit -1 trigger', 'get 0 loop_len', 'get 1 loop_len', 'get 0 feedback')
         live.at(9 * period, 'hit 0 overdub', 'hit 1 substitute')
-        live.at(20 * period, 'session set', 'get 0 layers')
-        live.at(40 * period, 'hit -1 undo', 'save 0 take.wav')
-        status = live.finish()
+        frame = live.at_answer(20 * period, 'session set')
+        live.at(frame + period, 'hit -1 undo', 'get 0 layers')
+        live.at_answer(frame + 9 * period, 'save 0 take.wav')
+        status = live.finish(more=False)
     finally:
         live.stop()
-    judged('a session loaded', live, status, begun, files=4)
+    again = judged('a session loaded', live, status, begun)
+    judge('the files of a session loaded', [] if os.path.exists(os.path.join(again.folder, 'take.wav')) else ['no take.wav'])
 
 
 def hurried(folder):
@@ -212,7 +219,7 @@ def demo(folder):
     done = subprocess.run([sys.executable, os.path.join(TOP, 'examples', 'live', 'demo.py'), PROGRAM, os.path.join(folder, 'demo')],
                           stdout=subprocess.PIPE, stderr=subprocess.STDOUT)
     text = done.stdout.decode()
-    good = done.returncode == 0 and text.split('\n')[-2].startswith('live and render agree: 144000 frames, 14 entries')
+    good = done.returncode == 0 and text.split('\n')[-2].startswith('live and render agree: 144000 frames, 15 entries')
     judge('the demo', [] if good else [text])
 
 

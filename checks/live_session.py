@@ -11,6 +11,7 @@ import re
 import select
 import shutil
 import socket
+import struct
 import subprocess
 import termios
 import threading
@@ -36,9 +37,11 @@ osc = loaded('send')
 
 
 def noise(seed, frames, channels):
-    """Samples that differ from one another, quiet enough that some of them can be added."""
+    """Samples of no pattern that a loop could have, quiet enough that some of them can be added."""
     source = random.Random(seed)
-    return array.array('h', [source.randrange(-9000, 9001) for _ in range(frames * channels)]).tobytes()
+    block = array.array('h', [source.randrange(-9000, 9001) for _ in range(min(frames, 20011) * channels)]).tobytes()
+    size = 2 * channels * frames
+    return (block * (size // len(block) + 1))[:size] if size else b''
 
 
 def write_wav(path, channels, rate, data):
@@ -73,7 +76,7 @@ class Live:
         self.step = 2 * channels
         self.given, self.out, self.told, self.sent, self.answers = 0, bytearray(), '', [], []
         self.changed = threading.Condition()
-        self.number = 0
+        self.number = self.pings = 0
         self.gone = False
         self.child = None
         self.begin(listens)
@@ -87,7 +90,7 @@ class Live:
     def begin(self, listens):
         """Starts the program at a port that is free; another program may take it in between, and then another one is tried."""
         for _ in range(5):
-            self.port = free_port()
+            self.port, self.began, self.first = free_port(), time.monotonic(), None
             self.child = subprocess.Popen(self.command(self.port), cwd=self.folder, stdin=subprocess.PIPE, stdout=subprocess.PIPE,
                                           stderr=subprocess.PIPE, bufsize=0)
             self.sock = socket.socket(socket.AF_INET, socket.SOCK_DGRAM)
@@ -139,8 +142,13 @@ class Live:
                 continue
             except (OSError, ValueError):
                 return
+            try:
+                answer = osc.read(data)
+            except (ValueError, IndexError, struct.error):
+                answer = ('no OSC', [data.hex()])
             with self.changed:
-                self.answers.append(osc.read(data))
+                self.first = self.first or time.monotonic()
+                self.answers.append(answer)
                 self.changed.notify_all()
 
     def wait(self, holds, what, seconds=WAIT, pause=0.05):
@@ -169,6 +177,7 @@ class Live:
         end = time.monotonic() + seconds
         while time.monotonic() < end and self.child.poll() is None:
             self.send(osc.message('/ping', '', path))
+            self.pings += 1
             try:
                 self.wait(lambda: self.count(path), 'a ping', 1)
                 return True
@@ -211,7 +220,7 @@ class Live:
         end = min(end, len(self.audio))
         while self.given < end and not self.gone:
             try:
-                self.given += os.write(self.child.stdin.fileno(), self.audio[self.given:min(end, self.given + 4096)])
+                self.given += os.write(self.child.stdin.fileno(), self.audio[self.given:min(end, self.given + 65536)])
             except BrokenPipeError:
                 self.gone = True
 
@@ -231,6 +240,19 @@ class Live:
         for text in texts:
             self.do(text)
         self.heard()
+
+    def at_answer(self, frame, text):
+        """Sends one command that acts at this frame, and plays on until it is answered. Gives a frame behind that."""
+        self.play_to(frame)
+        path = self.do(text)
+        self.heard()
+        for turn in range(1000):
+            frame += self.period
+            self.play_to(frame)
+            if self.count(path):
+                return frame
+            time.sleep(0.002 if turn < 500 else 0.1)
+        raise Failure('%s is not answered; it said: %s' % (text, self.told.strip()))
 
     def finish(self, more=True, close=True):
         """Gives what is left of the audio, ends the input, and waits for the program's end. Gives its status."""
@@ -274,6 +296,10 @@ class Live:
             except OSError:
                 pass
 
+    def refusals(self, side):
+        """How many packets and commands were refused: the sum over the lines behind the closing line, of OSC or of MIDI."""
+        return sum(int(count) for count in re.findall(r'^(?:looper: )?%s: ([0-9]+) ' % side, self.told, re.M))
+
     def closing(self):
         """The numbers of the closing line: frames, entries, osc, midi, unsent, saves, refused. None where there is none."""
         for line in self.told.split('\n'):
@@ -289,8 +315,11 @@ def entries_of(path):
         lines = file.read().split('\n')
     if lines[0] != 'looper journal 1' or lines[-2:] != ['end', '']:
         raise Failure('%s is no whole journal' % path)
-    return [(int(frame), int(sender), int(number), command)
-            for frame, sender, number, command in (line.split(' ', 3) for line in lines[1:-2])]
+    try:
+        return [(int(frame), int(sender), int(number), command)
+                for frame, sender, number, command in (line.split(' ', 3) for line in lines[1:-2])]
+    except ValueError:
+        raise Failure('%s has a line that is no entry' % path) from None
 
 
 class Again:
@@ -369,7 +398,10 @@ class Again:
 
         `more` is how many others there may be. Gives for each entry of OSC the place of its command among those sent, or None.
         """
-        sent = [text for text, _ in self.live.sent]
+        # A question without an answer wasn't accepted; which of several that are alike was, its answer tells.
+        answered = {address for address, _ in self.live.answers}
+        order = [place for place, (_, path) in enumerate(self.live.sent) if all_of_them or path is None or path in answered]
+        sent = [self.live.sent[place][0] for place in order]
         known, places, at = set(sent), [], 0
         for command in (entry[3] for entry in self.entries if entry[1] == 0):
             if command not in known:
@@ -383,9 +415,12 @@ class Again:
                 self.judge(False, 'entry %d of OSC, %s, is not the next that was sent' % (len(places), command))
                 return places
             at = place + 1
-            places.append(place)
+            places.append(order[place])
         self.judge(places.count(None) <= more, '%d entries were not sent' % places.count(None))
         self.judge(not all_of_them or at == len(sent), '%d commands were sent, and %d are in the journal' % (len(sent), at))
+        lost = len(self.live.sent) - len(places)
+        self.judge(all_of_them or self.live.refusals('OSC') == lost,
+                   '%d commands are not in the journal, and %d are told as refused' % (lost, self.live.refusals('OSC')))
         return places
 
     def answers(self, places):
