@@ -16,7 +16,7 @@ import tempfile
 import threading
 import time
 
-from live_session import TOP, Again, Failure, Live, noise
+from live_session import TOP, Again, Failure, Live, noise, osc
 
 PROGRAM = os.path.abspath(sys.argv[1])
 JOURNAL = ['--journal', 'journal.txt']
@@ -196,6 +196,24 @@ def loaded(folder, begun):
     judge('the files of a session loaded', [] if os.path.exists(os.path.join(again.folder, 'take.wav')) else ['no take.wav'])
 
 
+def all_words(folder):
+    """Every verb and control that tools/send knows, at both ends of its range, over 16 loops: all are accepted and answered."""
+    live = Live(PROGRAM, folder, noise(50, 60 * 64, 2), 2, 64, words=JOURNAL + ['--loops', '16', '--chunks', '64'])
+    texts = ['%s %d %s' % (way, loop, verb) for way in ('hit', 'down', 'up') for verb in osc.VERBS for loop in (-3, -1, 15)]
+    texts += ['set -1 %s %d' % (control, edge) for control in osc.SET for edge in osc.SET[control]]
+    texts += ['gset %s %d' % (control, edge) for control in osc.GLOBAL for edge in osc.GLOBAL[control]]
+    texts += ['get -3 ' + control for control in (*osc.SET, *osc.READ)] + ['gget ' + control for control in osc.GLOBAL]
+    try:
+        for number in range(0, len(texts), 20):
+            live.play_to((number // 20 + 1) * 64)
+            live.do_all(texts[number:number + 20])
+            live.heard()
+        status = live.finish()
+    finally:
+        live.stop()
+    judged('all verbs and controls', live, status)
+
+
 def hurried(folder):
     """The input comes as fast as it is read, and commands in bundles beside it. Some may find their ring full."""
     live = Live(PROGRAM, folder, noise(33, 480000, 2), 2, 256, words=JOURNAL)
@@ -246,6 +264,7 @@ def main():
         case('file', midi, fifo=False)
         begun = {name: os.path.join(kept, name) for name in os.listdir(kept) if name == 'set' or name.startswith('set-')}
         case('loaded', loaded, begun=begun)
+        case('words', all_words)
         case('hurried', hurried)
         case('demo', demo)
     print('live and render: %d passed, %d failed' % (passed, failed))
