@@ -251,9 +251,10 @@ def torn(folder):
         judge('the frames of a torn input', [] if again.closing.get('frames') == 40 * 64 else ['%s' % again.closing])
 
 
-def alone(folder, *words, data=b'', **more):
+def alone(folder, *words, data=b''):
     """A run without commands: its status, what it plays and says."""
-    done = subprocess.run([PROGRAM, 'live', *words], cwd=folder, input=data, stdout=subprocess.PIPE, stderr=subprocess.PIPE, timeout=60, **more)
+    done = subprocess.run([PROGRAM, 'live', *words], cwd=folder, input=data, stdout=subprocess.PIPE, stderr=subprocess.PIPE,
+                          timeout=60)
     return done.returncode, done.stdout, done.stderr.decode(errors='replace')
 
 
@@ -301,7 +302,8 @@ def unwritten(folder):
     full = '/dev/full'
     if os.path.exists(full):
         with open(full, 'wb') as sink:
-            done = subprocess.run([PROGRAM, 'live', '--port', str(free_port())], cwd=inner, input=noise(1, 500, 2), stdout=sink, stderr=subprocess.PIPE, timeout=60)
+            done = subprocess.run([PROGRAM, 'live', '--port', str(free_port())], cwd=inner, input=noise(1, 500, 2), stdout=sink,
+                                  stderr=subprocess.PIPE, timeout=60)
         judge('a device that is full', [] if done.returncode == 5 else ['status %d: %s' % (done.returncode, done.stderr.decode())])
 
 

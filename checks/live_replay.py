@@ -255,7 +255,8 @@ def main():
             return folder
 
         kept = None
-        for channels, period, chunks in [(1, 1, 4096), (2, 1, 1), (2, 64, 4096), (1, 250, 4), (2, 1024, 12), (1, 8192, 4096), (2, 8192, 90)]:
+        for channels, period, chunks in [(1, 1, 4096), (2, 1, 1), (2, 64, 4096), (1, 250, 4), (2, 1024, 12), (1, 8192, 4096),
+                                         (2, 8192, 90)]:
             title = '%s in periods of %d with %d chunks' % (('mono', 'stereo')[channels - 1], period, chunks)
             kept = case('take-%d-%d' % (channels, period), run, title, channels=channels, period=period, chunks=chunks)
         case('quit', ended_by_quit)

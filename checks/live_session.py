@@ -361,7 +361,8 @@ class Again:
             wanted = wanted[:len(heard)]
         if heard != wanted:
             place = next((at for at, pair in enumerate(zip(heard, wanted)) if pair[0] != pair[1]), min(len(heard), len(wanted)))
-            self.judge(False, 'live gave %d bytes, render %d, which differ from frame %d on' % (len(heard), len(wanted), place // self.live.step))
+            self.judge(False, 'live gave %d bytes, render %d, which differ from frame %d on' % (
+                len(heard), len(wanted), place // self.live.step))
 
     def files(self, passed_over=()):
         """Whether the saved files are the same, by name and byte for byte."""
