@@ -1,6 +1,6 @@
 -- A file that is told has one reading: what it holds, or one fault.
-use Rattle.std.proofs.Common.{◌≡◌, ◌≤◌, ℕ, List, Option, Some, None, refl, sym, ap, ◌∙◌, subst}
-use Rattle.std.specs.Prelude.{Result, Ok, Err}
+use Rattle.std.proofs.Common.{◌≡◌, ◌≤◌, ℕ, List, Some, None, sym, ap, ◌∙◌, subst}
+use Rattle.std.specs.Prelude.{Err}
 use Rattle.sl_base.specs.Sounds.{Sound}
 use Rattle.sl_commands.specs.declared.Entry.{Entry}
 use Rattle.sl_commands.specs.TextFaults.{kind_number}
@@ -9,7 +9,7 @@ use Rattle.text_lines.proofs.ReadingLemmas.{fault_is_one, text_has_no_fault}
 use Rattle.text_lines.specs.FirstFaults.{FirstFault}
 use Rattle.wav_pcm.specs.declared.WavFault.{WavFault}
 use Rattle.wav_pcm.specs.Faults.{fault_number}
-use Rattle.wav_pcm.specs.Reading.{Spelling, FormOf, form_of}
+use Rattle.wav_pcm.specs.Reading.{Spelling, form_of}
 use Rattle.wav_pcm.specs.Files.{IsWav}
 use Rattle.wav_pcm.proofs.FormLemmas.{fault_is_no_wav}
 use Rattle.wav_pcm.proofs.TextLemmas.{one_wav}

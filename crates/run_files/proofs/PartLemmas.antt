@@ -1,6 +1,5 @@
 -- The files of a session that are told have one reading: settings and lists, or one first bad file.
-use Rattle.std.proofs.Common.{◌≡◌, ◌≤◌, ◌⊎◌, inl, inr, ℕ, zero, suc, ◌+◌, List, [], ◌∷◌, ◌++◌, length, Option, Some, None, refl, sym, ap, ap₂, ◌∙◌, subst, arith}
-use Rattle.std.specs.Prelude.{Result, Ok, Err}
+use Rattle.std.proofs.Common.{◌≡◌, ◌≤◌, ◌⊎◌, inl, inr, ℕ, zero, suc, ◌+◌, List, [], ◌∷◌, ◌++◌, length, Some, refl, sym, ap, ap₂, ◌∙◌, subst, arith}
 use Rattle.sl_base.specs.Sounds.{Sound}
 use Rattle.sl_commands.specs.declared.StripSettings.{StripSettings}
 use Rattle.sl_commands.specs.Settings.{LooperSettings}

@@ -1,20 +1,16 @@
 -- What is told of the files of a run, put together.
-use Rattle.std.proofs.Common.{◌≡◌, ◌≢◌, ◌≤◌, ◌<◌, ℕ, zero, suc, ◌+◌, List, [], ◌∷◌, length, map, replicate, Option, Some, None, Bool, true, false, refl, sym, ap, ap₂, ◌&&◌, ◌∙◌, subst, arith}
-use Rattle.std.specs.Prelude.{Result, Ok, Err, IfOk, IsTrue}
+use Rattle.std.proofs.Common.{◌≡◌, ℕ, zero, suc, ◌+◌, List, [], ◌∷◌, length, replicate, Option, Some, None, Bool, false, refl, sym, ap, ap₂, ◌&&◌, ◌∙◌, subst}
+use Rattle.std.specs.Prelude.{Result, Ok, Err, IsTrue}
 use Rattle.std.proofs.lemmas.Bool.{le-leb}
 use Rattle.sl_base.specs.Limits.{max_rate}
 use Rattle.sl_base.specs.Sounds.{Sound}
 use Rattle.sl_commands.specs.declared.Entry.{Entry}
 use Rattle.sl_commands.specs.declared.StripSettings.{StripSettings}
-use Rattle.sl_commands.specs.declared.TextFault.{TextFault}
-use Rattle.sl_commands.specs.TextFaults.{kind_number}
 use Rattle.sl_commands.specs.Settings.{LooperSettings, default_strip, is_rate}
 use Rattle.sl_ports.specs.declared.keepers.Keeper.{Ghosts as Keeper}
 use Rattle.sl_ports.specs.Files.{Files, Holds}
 use Rattle.sl_ports.specs.Effects.{OnlyReads}
-use Rattle.text_lines.specs.FirstFaults.{FirstFault}
-use Rattle.journal_text.specs.Journals.{journal_form}
-use Rattle.session_file.specs.Loading.{HoldsPart, IsPart, AreParts, is_unread}
+use Rattle.session_file.specs.Loading.{IsPart, AreParts, is_unread}
 use Rattle.session_file.specs.Outcomes.{SaysOf}
 use Rattle.session_file.specs.declared.loading.LoadFault.{LoadFault}
 use Rattle.session_file.specs.declared.loading.LoadFault.TheVariants.{File, Read, Memory}
@@ -26,7 +22,7 @@ use Rattle.wav_pcm.specs.Inputs.{InputOf, spelling_of_input}
 use Rattle.run_files.specs.Named.{Named}
 use Rattle.run_files.specs.OneFile.{HoldsWav, no_wav_file, bad_wav, HoldsJournal, no_journal_file, bad_journal_text, IsBadInput, IsBadJournal}
 use Rattle.run_files.specs.AllFiles.{Begins, IsBadBeginning, HoldsRun, FirstBad, bad_input, bad_beginning, bad_journal}
-use Rattle.run_files.specs.Readings.{TellsInput, TellsJournal, ReadsInput, ReadsBeginning, ReadsJournal}
+use Rattle.run_files.specs.Readings.{TellsInput, TellsJournal, ReadsInput, ReadsJournal}
 
 -- what bytes tell reads nothing
 pub input_reads :

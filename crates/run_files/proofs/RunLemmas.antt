@@ -1,11 +1,11 @@
 -- What is told of a run behind its files. Files that are told have one reading: all that they tell,
 -- or one first bad file.
-use Rattle.std.proofs.Common.{◌≡◌, ◌≤◌, ◌<◌, ◌&&◌, ℕ, zero, suc, ◌+◌, List, [], ◌∷◌, length, replicate, Option, Some, None, true, refl, sym, ap, ◌∙◌, subst, arith}
-use Rattle.std.specs.Prelude.{IfSome, IfOk, IsTrue, nat_le, Bool, false, Result, Ok, Err}
+use Rattle.std.proofs.Common.{◌≡◌, ◌≤◌, ℕ, zero, suc, List, length, replicate, Option, Some, None, refl, sym, ap, ◌∙◌, subst, arith}
+use Rattle.std.specs.Prelude.{IfOk, IsTrue, nat_le, false, Result, Ok, Err}
 use Rattle.std.proofs.lemmas.Bool.{and_parts, leb-true}
 use Rattle.sl_base.specs.Limits.{max_loops}
 use Rattle.sl_base.specs.Sounds.{Sound}
-use Rattle.sl_commands.specs.Settings.{LooperSettings, default_settings, default_strip, is_loop_count, are_settings, are_strips}
+use Rattle.sl_commands.specs.Settings.{LooperSettings, default_strip, is_loop_count, are_settings, are_strips}
 use Rattle.sl_ports.specs.declared.keepers.Keeper.{Ghosts as Keeper}
 use Rattle.sl_ports.specs.Effects.{OnlyReads}
 use Rattle.journal_text.specs.Journals.{AreOfJournal}
@@ -21,7 +21,7 @@ use Rattle.sl_ports.specs.Files.{Files}
 use Rattle.wav_pcm.specs.Reading.{Spelling}
 use Rattle.session_file.proofs.SessionLemmas.{settings_parts}
 use Rattle.run_files.specs.Named.{Named, IsNamed}
-use Rattle.run_files.specs.OneFile.{HoldsWav, LacksWav, HoldsJournal, LacksJournal}
+use Rattle.run_files.specs.OneFile.{HoldsWav, HoldsJournal, LacksJournal}
 use Rattle.run_files.specs.RunLimits.{IsWithin, IsBeyond, too_long, too_few_chunks}
 use Rattle.run_files.specs.AllFiles.{Contents, Begins, IsBadBeginning, HoldsRun, IsRunOf, ExceedsLimit, FirstBad, bad_input, bad_beginning, bad_journal}
 use Rattle.run_files.proofs.FileLemmas.{one_input, input_or_not, one_input_fault, one_journal_file, journal_or_not, one_journal_fault}
@@ -96,7 +96,7 @@ length-replicate zero a = refl
 length-replicate (suc n) a = ap suc (length-replicate n a)
 
 -- a run begins with at most 16 loops
-begins_with_few :
+pub begins_with_few :
     (files : Files) (session : Option (List ℕ)) (rate loops : ℕ) (settings : LooperSettings)
     (lists : List (List Sound)) → IsTrue (is_loop_count loops)
     → Begins (Some files) session rate loops settings lists → length settings.strips ≤ 16
@@ -109,7 +109,7 @@ begins_with_few files (Some session) rate loops settings lists counted begins =
     few_loops (length settings.strips) (settings_parts settings begins.text.valid).loops
 
 -- it begins in one way
-one_beginning :
+pub one_beginning :
     (files : Files) (session : Option (List ℕ)) (rate loops : ℕ) (s t : LooperSettings)
     (lists others : List (List Sound))
     → Begins (Some files) session rate loops s lists →
@@ -119,7 +119,7 @@ one_beginning files None rate loops s t lists others first second =
 one_beginning files (Some session) rate loops s t lists others first second =
     one_session files session s t lists others first second
 
-begins_or_bad :
+pub begins_or_bad :
     (files : Files) (session : Option (List ℕ)) (rate loops : ℕ) (s : LooperSettings)
     (lists : List (List Sound)) (name : List ℕ) (kind line : ℕ)
     → Begins (Some files) session rate loops s lists →
@@ -128,7 +128,7 @@ begins_or_bad files None rate loops s lists name kind line begins first = absurd
 begins_or_bad files (Some session) rate loops s lists name kind line begins first =
     loaded_or_bad files session s lists name kind line begins first
 
-one_bad_beginning :
+pub one_bad_beginning :
     (files : Files) (session : Option (List ℕ)) (name other : List ℕ)
     (kind line kind_too line_too : ℕ) → IsBadBeginning (Some files) session name kind line
     → IsBadBeginning (Some files) session other kind_too line_too → (name ≡ other)

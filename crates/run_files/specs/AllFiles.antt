@@ -4,7 +4,7 @@
 -- The first bad file is the first by this order that is missing or not in its form. The limits are
 -- judged behind all files.
 -- "The files of a run" in docs/formats.md.
-use Rattle.std.specs.Prelude.{◌≡◌, ℕ, List, [], Option, Some, None, length, Result, Ok, Err, ⊤}
+use Rattle.std.specs.Prelude.{◌≡◌, ℕ, List, [], Option, Some, None, length}
 use Rattle.sl_base.specs.Sounds.{Sound}
 use Rattle.sl_commands.specs.declared.entry.Entry.{Entry}
 use Rattle.sl_commands.specs.Settings.{LooperSettings, default_settings}

@@ -1,12 +1,10 @@
 -- What each step of reading the files of a run tells.
 -- "The files of a run" in docs/formats.md.
-use Rattle.std.specs.Prelude.{◌≡◌, ℕ, Bool, true, false, List, Option, Some, None, length, Result, Ok, Err, ⊤}
-use Rattle.std.specs.declared.vec.Vec.{Vec}
-use Rattle.std.specs.declared.alloc.Global.{Global}
+use Rattle.std.specs.Prelude.{◌≡◌, ℕ, Bool, true, false, List, Option, length, Result, Ok, Err, ⊤}
 use Rattle.sl_base.specs.Sounds.{Sound}
 use Rattle.sl_commands.specs.declared.entry.Entry.{Entry}
 use Rattle.sl_commands.specs.Settings.{LooperSettings}
-use Rattle.sl_ports.specs.Files.{Files, Holds}
+use Rattle.sl_ports.specs.Files.{Files}
 use Rattle.session_file.specs.declared.loading.LoadFault.{LoadFault}
 use Rattle.session_file.specs.declared.loading.LoadFault.TheVariants.{File as BadFile, Read as Unread, Memory as NoMemory}
 use Rattle.session_file.specs.Outcomes.{SaysOf, ToldOf}

@@ -11,12 +11,16 @@
 //! - Nothing is written. A failed reading and want of memory are answers of their own, and say
 //!   nothing of the files.
 //!
-//! Begin with `sources`, then `run`; `reading` reads each file, and
+//! A live session begins with the same session or empty loops: `read_beginning`, `has_chunks` and
+//! `fault_of` serve the reading of its files too.
+//!
+//! Begin with `sources`, then `run`; `reading` reads each file, `limits` judges the chunks, and
 //! `laws` has what holds of the definitions.
 //! The rules are "The files of a run" in docs/formats.md.
 #![tactic(auto)]
 
 mod laws;
+mod limits;
 mod reading;
 mod run;
 mod sources;
@@ -24,5 +28,7 @@ mod sources;
 mod tests;
 
 pub use laws::{a_run_has_one_first_bad_file, a_run_has_one_reading, a_run_is_read_or_refused};
-pub use run::{FilesFault, RunFiles, read_run};
+pub use limits::has_chunks;
+pub use reading::read_beginning;
+pub use run::{FilesFault, RunFiles, fault_of, read_run};
 pub use sources::Sources;

@@ -7,9 +7,9 @@ ghost use Rattle.journal_text.specs.Journals.{AreOfJournal};
 ghost use Rattle.looper_rules.specs.Reached.{AreLists, IsBeginning};
 ghost use Rattle.run_files.specs.Readings.{IsFaultOf, Judges, ReadsAll, ReadsRun, is_unread};
 
+use crate::limits::has_chunks;
 use crate::reading::{read_beginning, read_input, read_journal};
 use crate::sources::Sources;
-use looper_tracks::chunks_needed;
 use session_file::LoadFault;
 use sl_base::{MAX_FILE_FRAMES, Name};
 use sl_commands::{Entries, Initial, Settings};
@@ -46,7 +46,7 @@ pub enum FilesFault {
 }
 
 /// A fault of reading, as the fault of the run.
-fn fault_of(fault: LoadFault) -> FilesFault
+pub fn fault_of(fault: LoadFault) -> FilesFault
     ensures { IsFaultOf fault result }
 {
     match fault {
@@ -85,17 +85,15 @@ fn read_all<P: Keeper>(
 }
 
 /// What was read, where it is within the limits.
-#[tactic(auto, using(crate::proofs::RunLemmas::strips_in_range))]
 fn judge(files: RunFiles, chunks: u32) -> Result<RunFiles, FilesFault>
     requires { AreLists files.settings.strips files.initial }
     ensures value { Judges files chunks result }
     ensures begins { IfOk result (λ f. IsBeginning f.settings chunks f.initial) }
 {
-    let _loops = files.settings.loop_count();
     if files.input.len() > MAX_FILE_FRAMES {
         return Err(FilesFault::Limit);
     }
-    if chunks < chunks_needed(files.settings.strips.as_slice(), files.initial.as_slice()) {
+    if !has_chunks(&files.settings, &files.initial, chunks) {
         return Err(FilesFault::Limit);
     }
     Ok(files)

@@ -1,0 +1,4 @@
+pub mod LiveNamed
+pub mod BoundFile
+pub mod LiveReading
+pub mod LiveAnswers
