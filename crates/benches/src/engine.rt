@@ -17,7 +17,7 @@
 
 mod hand;
 mod scenario;
-mod session;
+pub mod session;
 
 use crate::words::number;
 

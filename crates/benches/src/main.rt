@@ -7,6 +7,7 @@
 //! benches layers KIND FRAMES STREAKS TIMES   layers on a shared tape, for bench/layers.sh
 //! benches rings KIND THREADS COUNT CAPACITY  numbers through a ring, for bench/rings.sh
 //! benches messages KIND COUNT                messages from outside, for bench/messages.sh
+//! benches turns KIND LOOPS PERIOD TIMES      a frame in turns of audio, for bench/turns.sh
 //! ```
 //!
 //! What is timed inside is told in a line each, with the least of TIMES in thousandths of a
@@ -20,6 +21,7 @@ mod layers;
 mod messages;
 mod rings;
 mod strip;
+mod turns;
 mod words;
 
 use std::process::ExitCode;
@@ -39,10 +41,10 @@ fn done(rt: &HostRuntime, words: &[String]) -> Option<bool> {
     }
 }
 
-/// The first word is that of the rings, which want a runtime that waits: `main` alone has it.
-fn is_of_rings(words: &[String]) -> bool {
+/// The first word is this one.
+fn is_of(words: &[String], part: &str) -> bool {
     match words.first() {
-        Some(part) => part.as_str() == "rings",
+        Some(first) => first.as_str() == part,
         None => false,
     }
 }
@@ -65,8 +67,11 @@ fn main(rt: HostRuntime) -> ExitCode {
         Ok(words) => words,
         Err(_) => return ExitCode::from(8),
     };
-    let done = if is_of_rings(&words) {
+    // Rings want a runtime that waits, which `main` alone has.
+    let done = if is_of(&words, "rings") {
         rings::passed(&rt, rt.alloc(), behind_first(&words))
+    } else if is_of(&words, "turns") {
+        turns::timed(&rt, &rt, behind_first(&words))
     } else {
         done(&rt, &words)
     };

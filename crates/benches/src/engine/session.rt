@@ -1,6 +1,8 @@
 //! An engine whose loops have a list, and the frames that it plays.
 
-ghost use Rattle.std.specs.Prelude.{◌≤◌};
+ghost use Rattle.std.specs.Prelude.{◌≡◌, ◌≤◌, IfSome};
+ghost use Rattle.looper_rules.specs.Reached.{IsBeginning};
+ghost use Rattle.engine_steps.specs.Engines.{Beginning, first_engine};
 
 use crate::clock::{least, now, since};
 use engine_steps::an_engine_may_take_commands_and_what_is_due;
@@ -37,16 +39,21 @@ pub fn sound(number: u32) -> Frame {
 }
 
 /// An engine with so many empty loops.
-fn begun(alloc: Global, loops: u8) -> Option<Engine>
+pub fn begun(alloc: Global, loops: u8) -> Option<Engine>
     requires some { 1 ≤ loops }
     requires few { loops ≤ 16 }
+    ensures begins { IfSome result (λ e. (b : Beginning)
+        × IsBeginning b.settings b.chunks b.initial × (b.quota ≡ 65536) × (e ≡ first_engine b)) }
 {
     let setup = Setup {
         settings: Settings::with_defaults(48000, loops),
         chunks: CHUNKS,
         quota: 65536,
     };
-    Engine::new(alloc, &setup, &Initial::new(alloc)).ok()
+    match Engine::new(alloc, &setup, &Initial::new(alloc)) {
+        Ok(engine) => Some(engine),
+        Err(_) => None,
+    }
 }
 
 /// So many frames that are recorded.
