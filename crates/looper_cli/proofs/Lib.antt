@@ -1,5 +1,3 @@
-pub mod WordsLemmas
-pub mod WordListLemmas
 pub mod ConsoleLemmas
 pub mod RenderLemmas
 pub mod EndingLemmas

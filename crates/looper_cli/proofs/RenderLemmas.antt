@@ -1,5 +1,5 @@
 -- What a run of `render` leaves, from what its parts did.
-use Rattle.std.proofs.Common.{◌≡◌, ℕ, ◌≤◌, List, [], ◌∷◌, ◌++◌, length, map, Option, ap, sym, ◌∙◌, subst, refl, arith, false, inl, inr}
+use Rattle.std.proofs.Common.{◌≡◌, ℕ, ◌≤◌, List, [], ◌∷◌, ◌++◌, Option, ap, sym, ◌∙◌, subst, refl, arith, false, inl, inr}
 use Rattle.std.specs.Prelude.{Result, Ok, Err}
 use Rattle.std.specs.String.{string_bytes}
 use Rattle.sl_base.specs.Counting.{Rose}
@@ -7,7 +7,6 @@ use Rattle.sl_ports.specs.Files.{Files, put_told}
 use Rattle.sl_ports.specs.Effects.{OnlyReads}
 use Rattle.sl_ports.specs.declared.keepers.Keeper.{Ghosts as Keeper}
 use Rattle.sl_commands.specs.declared.Entry.{Entry}
-use Rattle.looper_rules.specs.Room.{used}
 use Rattle.looper_rules.specs.Run.{start}
 use Rattle.loop_saver.specs.SavedFiles.{put_all}
 use Rattle.loop_saver.specs.Accepting.{WritesFirst, StopsWriting}
@@ -22,11 +21,11 @@ use Rattle.run_files.specs.Readings.{ReadsRun, is_unread}
 use Rattle.run_files.specs.declared.run.RunFiles.{RunFiles}
 use Rattle.run_files.specs.declared.run.FilesFault.{FilesFault}
 use Rattle.run_files.specs.declared.run.FilesFault.TheVariants.{File as BadOne, Read as NotRead, Memory as NoRoom, Limit as TooMuch}
-use Rattle.looper_cli.specs.Words.{RenderAsked}
+use Rattle.command_words.specs.Words.{RenderAsked}
 use Rattle.looper_cli.specs.Named.{named_of}
 use Rattle.looper_cli.specs.Console.{done_text}
 use Rattle.looper_cli.specs.Statuses.{status_line, status_of}
-use Rattle.looper_cli.specs.Endings.{input_of, looper_of, out_file, files_of_run, Renders, RendersFirst, StopsRendering, StaysWhole, KeepsCounts, FailsToWrite, FailsBy, PassesFiles, PassesPlay}
+use Rattle.looper_cli.specs.Endings.{input_of, looper_of, out_file, files_of_run, Renders, RendersFirst, StopsRendering, KeepsCounts, FailsToWrite, FailsBy, PassesFiles, PassesPlay}
 use Rattle.looper_cli.specs.declared.status.RunFault.{RunFault}
 use Rattle.looper_cli.specs.declared.status.RunFault.TheVariants.{Memory as Lacking}
 use Rattle.looper_cli.specs.declared.status.Status.TheVariants.{Done}

@@ -13,7 +13,7 @@ use Rattle.sl_ports.specs.Texts.{AppendsPrefix}
 use Rattle.sl_ports.specs.declared.sinks.Sink.{Ghosts as Sink}
 use Rattle.ring_world.specs.declared.summary.Summary.{Summary}
 use Rattle.ring_world.specs.Drills.{drill_summary}
-use Rattle.looper_cli.specs.Words.{DrillAsked}
+use Rattle.command_words.specs.Words.{DrillAsked}
 use Rattle.looper_cli.specs.Statuses.{status_line}
 use Rattle.looper_cli.specs.declared.status.RunFault.{RunFault}
 use Rattle.looper_cli.specs.declared.status.RunFault.TheVariants.{BadFile as IsBad, Limit as Beyond, Reading, Writing, Memory as Lacking}

@@ -44,7 +44,7 @@ use Rattle.save_feeding.specs.declared.stopped.Stopped.TheVariants.{Writing as U
 use Rattle.run_files.specs.AllFiles.{Contents, IsRunOf, ExceedsLimit, FirstBad}
 use Rattle.run_files.specs.declared.run.FilesFault.{FilesFault}
 use Rattle.run_files.specs.declared.run.FilesFault.TheVariants.{File as BadOne, Read as NotRead, Memory as NoRoom, Limit as TooMuch}
-use Rattle.looper_cli.specs.Words.{RenderAsked, DrillAsked, Asked, renders, drills, shows}
+use Rattle.command_words.specs.Words.{RenderAsked, DrillAsked, Asked, renders, drills, shows}
 use Rattle.looper_cli.specs.Named.{named_of}
 use Rattle.looper_cli.specs.Console.{bad_file_text, done_text, drill_text, show_text}
 use Rattle.looper_cli.specs.Statuses.{status_line, status_of}

@@ -1,5 +1,3 @@
-pub mod Words
-pub mod Asking
 pub mod Named
 pub mod Statuses
 pub mod Console

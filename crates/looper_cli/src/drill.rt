@@ -6,7 +6,7 @@ ghost use Rattle.looper_cli.specs.Console.{drill_words, first_numbers, last_numb
 ghost use Rattle.looper_cli.specs.Endings.{Drills};
 
 use crate::status::{RunFault, Status};
-use crate::words::Drill;
+use command_words::Drill;
 use ring_world::{Summary, drill as run_drill};
 use std::alloc::{AllocError, Global};
 

@@ -1,4 +1,4 @@
-//! The command line: words with their options, printing and the top call.
+//! The commands that play no device: what they do, printing and the top call.
 //!
 //! - `plain_run` does what the words ask for, over a keeper of files and a console, and gives the
 //!   exit status. How it ends is said for each status in `specs/Endings`: what was written, what
@@ -13,21 +13,18 @@
 //!   file.
 //! - `show` loads a session, and gives the text that tells of its loops. It writes nothing.
 //!
-//! Begin with `top`, then `render`; `words` and `options` read what a run is asked for, and
-//! `status` has the statuses and faults with their lines. The forms are "The words of the command
-//! line", "The console" and "Statuses" in docs/formats.md, and what is heard is "The run" in
-//! docs/rules.md.
+//! Begin with `top`, then `render`; `status` has the statuses and faults with their lines. The forms
+//! are "The words of the command line", "The console" and "Statuses" in docs/formats.md, and what is
+//! heard is "The run" in docs/rules.md.
 #![tactic(auto)]
 
 mod console;
 mod drill;
-mod options;
 mod render;
 mod show;
+mod sources;
 mod status;
 mod top;
-mod words;
 
 pub use status::Status;
 pub use top::plain_run;
-pub use words::{Drill, Render, Show, Words, WordsFault, words_of};

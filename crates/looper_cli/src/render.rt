@@ -9,8 +9,9 @@ ghost use Rattle.looper_cli.specs.Endings.{CountsBy, Leaves, PassesFiles, Passes
 ghost use Rattle.looper_cli.specs.declared.status.RunFault.TheVariants.{Memory as Lacking};
 ghost use Rattle.looper_cli.specs.declared.status.Status.TheVariants.{Done};
 
+use crate::sources::sources_of;
 use crate::status::{RunFault, Status};
-use crate::words::Render;
+use command_words::Render;
 use journal_run::{Performed, play};
 use run_files::{FilesFault, read_run};
 use save_feeding::Stopped;
@@ -59,7 +60,7 @@ pub fn render<P: Keeper>(alloc: Global, keeper: &mut P, asked: &Render) -> Resul
     ensures leaves { Leaves P.Keeper asked.now keeper.old keeper.new result }
     ensures counts { CountsBy P.Keeper keeper.old keeper.new result }
 {
-    let files = match read_run(alloc, keeper, &asked.sources()) {
+    let files = match read_run(alloc, keeper, &sources_of(asked)) {
         Ok(files) => files,
         Err(fault) => return Err(fault_of(fault)),
     };

@@ -7,7 +7,7 @@ ghost use Rattle.looper_cli.specs.Endings.{CountsBy, LooksAt, PassesLoad};
 ghost use Rattle.sl_base.specs.Limits.{max_loops};
 
 use crate::status::{RunFault, Status};
-use crate::words::Show;
+use command_words::Show;
 use session_file::{LoadFault, load};
 use sl_base::MAX_LOOPS;
 use sl_commands::{Settings, StripSettings};

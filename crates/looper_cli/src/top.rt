@@ -6,10 +6,11 @@ ghost use Rattle.std.specs.String.{string_bytes};
 ghost use Rattle.sl_base.specs.Counting.{Rose};
 ghost use Rattle.sl_ports.specs.Effects.{TellsTo};
 ghost use Rattle.sl_ports.specs.Texts.{AppendsPrefix};
-ghost use Rattle.looper_cli.specs.Named.{asked_by, IsNamedBy};
+ghost use Rattle.command_words.specs.Answering.{asked_by};
+ghost use Rattle.looper_cli.specs.Named.{IsNamedBy};
 ghost use Rattle.looper_cli.specs.Endings.{Ends, Does, CountsBy, KeepsCounts, StaysWhole, IsDone, NamesBad, IsBadFor, CannotWrite, IsBeyondFor, WritesAtMost};
 ghost use Rattle.looper_cli.specs.Statuses.{IsStatusNumber, status_line};
-ghost use Rattle.looper_cli.specs.Words.{asked_in};
+ghost use Rattle.command_words.specs.Words.{asked_in};
 ghost use Rattle.looper_cli.specs.declared.status.Status.TheVariants.{Words as Other, ReadFault, WriteFault, Limit};
 
 use crate::console::{tell, tell_done, tell_fault};
@@ -17,27 +18,27 @@ use crate::drill::drill;
 use crate::render::render;
 use crate::show::show;
 use crate::status::{RunFault, Status};
-use crate::words::{Words, words_of};
+use command_words::{Plain, plain_words};
 use sl_ports::{Keeper, Sink};
 use std::alloc::Global;
 
 /// Does what the words ask for, and gives the text that tells of it.
-fn run<P: Keeper>(alloc: Global, keeper: &mut P, words: &Words) -> Result<String, RunFault>
+fn run<P: Keeper>(alloc: Global, keeper: &mut P, words: &Plain) -> Result<String, RunFault>
     ensures named { IsNamedBy (asked_by words.now) }
     ensures does { Does P.Keeper (asked_by words.now) keeper.old keeper.new result }
     ensures counts { CountsBy P.Keeper keeper.old keeper.new result }
 {
     match words {
-        Words::Render(asked) => render(alloc, keeper, asked),
-        Words::Drill(asked) => drill(alloc, asked),
-        Words::Show(session) => show(alloc, keeper, session),
+        Plain::Render(asked) => render(alloc, keeper, asked),
+        Plain::Drill(asked) => drill(alloc, asked),
+        Plain::Show(session) => show(alloc, keeper, session),
     }
 }
 
 /// Does what the words ask for, and tells the console how it ended.
 fn run_and_tell<P: Keeper, C: Sink>(
     alloc: Global,
-    words: &Words,
+    words: &Plain,
     keeper: &mut P,
     console: &mut C,
 ) -> Status
@@ -120,7 +121,7 @@ pub fn plain_run<P: Keeper, C: Sink>(
         WritesAtMost asked (P.files keeper.old) (P.files keeper.new))
         × (console.new ≡ console.old) }
 {
-    match words_of(words) {
+    match plain_words(words) {
         Ok(words) => run_and_tell(alloc, &words, keeper, console).number(),
         Err(_) => {
             tell(console, Status::Words.line());

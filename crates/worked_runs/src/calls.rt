@@ -1,6 +1,7 @@
 //! The public calls below a run, once each where they succeed.
 
-use looper_cli::{Status, Words, words_of};
+use command_words::{Plain, plain_words};
+use looper_cli::Status;
 use sl_base::{Frame, Frames, Name, clamp24, narrow, scale, widen};
 use std::test::Fail;
 
@@ -52,7 +53,7 @@ fn names_and_words_are_read(rt: HostRuntime) -> Result<(), Fail> {
     for word in ["render", "in", "--period", "out", "--loops", "3"] {
         words.push(String::from_str(rt.alloc(), word)?)?;
     }
-    let Ok(Words::Render(run)) = words_of(&words) else {
+    let Ok(Plain::Render(run)) = plain_words(&words) else {
         return Err(Fail::from("not in the grammar"));
     };
     assert_eq!(rt; run.input.as_str(), "in");

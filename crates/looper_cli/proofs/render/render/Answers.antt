@@ -3,7 +3,7 @@ use Rattle.std.specs.declared.vec.Vec.{Vec}
 use Rattle.std.specs.declared.alloc.Global.{Global}
 use Rattle.sl_ports.specs.Files.{put_told}
 use Rattle.run_files.specs.Readings.{told_of}
-use Rattle.looper_cli.specs.Words.{RenderAsked}
+use Rattle.command_words.specs.Words.{RenderAsked}
 use Rattle.looper_cli.specs.declared.status.RunFault.TheVariants.{Memory as Lacking}
 use Rattle.looper_cli.proofs.RenderLemmas.{unread_fails, played_so, unplayed, gave, unplayed_fails, untold_fails, run_is_done, out_is_left, unread_counts, unplayed_counts, lists_fit}
 use Rattle.looper_cli.proofs.render.render.Goals as goal
@@ -11,7 +11,7 @@ use Rattle.looper_cli.proofs.render.render.Goals as goal
 pub returns-in-Err-clause-leaves : goal.returns-in-Err-clause-leaves
 returns-in-Err-clause-leaves g c =
     unread_fails g.P.Keeper _ _ c.args.keeper.now c.read_run.new.keeper c.in-Err.fault
-    c.fault_of.result c.sources.ensures.value
+    c.fault_of.result c.sources_of.ensures.value
     c.in-Err.ensures.reads c.in-Err.ensures.value c.fault_of.ensures
 
 pub returns-in-Err-played-clause-leaves : goal.returns-in-Err-played-clause-leaves
@@ -19,7 +19,7 @@ returns-in-Err-played-clause-leaves g c =
     let chunks = ap (λ (r : RenderAsked). r.chunks) c.asked.view_is in
     unplayed_fails g.P.Keeper c.args.asked.now _ (told_of c.in-Ok.files) c.args.keeper.now
     c.read_run.new.keeper c.play-played.new.keeper c.in-Err-played.fault
-    c.play_fault_of.result c.sources.ensures.value c.in-Ok.ensures.reads c.in-Ok.ensures.value
+    c.play_fault_of.result c.sources_of.ensures.value c.in-Ok.ensures.reads c.in-Ok.ensures.value
     (played_so g.P.Keeper c.args.asked.now (told_of c.in-Ok.files) c.read_run.new.keeper
     c.play-played.new.keeper _ _ (unplayed c.in-Err-played.fault)
     c.as_slice.ensures chunks c.in-Err-played.ensures.value) c.play_fault_of.ensures
@@ -31,7 +31,7 @@ returns-in-Err-clause-counts g c =
 
 pub play-played-requires-clause-room : goal.play-played-requires-clause-room
 play-played-requires-clause-room g c =
-    lists_fit c.args.asked.now _ _ _ c.sources.ensures.value
+    lists_fit c.args.asked.now _ _ _ c.sources_of.ensures.value
     (sym (ap (λ (r : RenderAsked). r.chunks) c.asked.view_is)) c.in-Ok.ensures.value.within.chunks
 
 pub returns-in-Err-played-clause-counts : goal.returns-in-Err-played-clause-counts
@@ -51,7 +51,7 @@ returns-in_err-told-clause-leaves g c =
     rw passed (rw wanted
     (untold_fails g.P.Keeper c.args.asked.now _ (told_of c.in-Ok.files) c.args.keeper.now
     c.read_run.new.keeper c.play-played.new.keeper
-    c.in-Ok-played.performed c.sources.ensures.value c.in-Ok.ensures.reads c.in-Ok.ensures.value
+    c.in-Ok-played.performed c.sources_of.ensures.value c.in-Ok.ensures.reads c.in-Ok.ensures.value
     (played_so g.P.Keeper c.args.asked.now (told_of c.in-Ok.files) c.read_run.new.keeper
     c.play-played.new.keeper _ _ (gave c.in-Ok-played.performed)
     c.as_slice.ensures (ap (λ (r : RenderAsked). r.chunks) c.asked.view_is)
@@ -66,7 +66,7 @@ returns-in-Done-clause-leaves g c =
     c.in-Ok-played.ensures.value in (
       run_is_done g.P.Keeper c.args.asked.now _ (told_of c.in-Ok.files) c.args.keeper.now
           c.read_run.new.keeper c.play-played.new.keeper c.write_file.new.self
-          c.in-Ok-played.performed c.deref.result.now _ c.sources.ensures.value
+          c.in-Ok-played.performed c.deref.result.now _ c.sources_of.ensures.value
           c.in-Ok.ensures.reads c.in-Ok.ensures.value plays
           (c.deref.ensures.value ∙ ap (λ (v : Vec ℕ Global). v.items) c.told.ensures.out)
           c.in_ok-told.ensures.text
@@ -84,7 +84,7 @@ pub returns-in-Failed-clause-leaves : goal.returns-in-Failed-clause-leaves
 returns-in-Failed-clause-leaves g c =
     out_is_left g.P.Keeper c.args.asked.now _ (told_of c.in-Ok.files) c.args.keeper.now
     c.read_run.new.keeper c.play-played.new.keeper c.write_file.new.self c.in-Ok-played.performed
-    c.sources.ensures.value c.in-Ok.ensures.reads c.in-Ok.ensures.value
+    c.sources_of.ensures.value c.in-Ok.ensures.reads c.in-Ok.ensures.value
     (played_so g.P.Keeper c.args.asked.now (told_of c.in-Ok.files) c.read_run.new.keeper
     c.play-played.new.keeper _ _ (gave c.in-Ok-played.performed) c.as_slice.ensures
     (ap (λ (r : RenderAsked). r.chunks) c.asked.view_is) c.in-Ok-played.ensures.value)
