@@ -18,6 +18,8 @@ mod live;
 mod live_options;
 mod options;
 mod plain;
+#[cfg(test)]
+mod tests;
 mod values;
 mod words;
 
