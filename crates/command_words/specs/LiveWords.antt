@@ -12,8 +12,8 @@ use Rattle.std.specs.Str.{bytes_eq}
 use Rattle.sl_base.specs.Limits.{max_rate, max_quota}
 use Rattle.sl_base.specs.Names.{is_name}
 use Rattle.command_words.specs.Words.{Given, none_given, number_in, first_given, with_option, options_in, given_or}
-use Rattle.command_words.specs.declared.listen.Listen.{Listen}
-use Rattle.command_words.specs.declared.listen.Listen.TheVariants.{Local, All}
+use Rattle.live_ports.specs.declared.udp_link.Listen.{Listen}
+use Rattle.live_ports.specs.declared.udp_link.Listen.TheVariants.{Local, All}
 
 -- the greatest port
 abbrev pub max_port : ℕ

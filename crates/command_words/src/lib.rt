@@ -24,7 +24,7 @@ mod values;
 mod words;
 
 pub use fault::WordsFault;
-pub use listen::Listen;
 pub use live::{Live, live_words};
+pub use live_ports::Listen;
 pub use plain::{Drill, Plain, Render, Show, plain_words};
 pub use words::{Words, words_of};

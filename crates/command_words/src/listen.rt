@@ -4,14 +4,7 @@ ghost use Rattle.std.specs.Prelude.{◌≡◌};
 ghost use Rattle.command_words.specs.Words.{first_given};
 ghost use Rattle.command_words.specs.LiveWords.{listen_in};
 
-/// Whose packets are heard.
-#[derive(Clone, Copy, Debug, PartialEq, Eq)]
-pub enum Listen {
-    /// Those of programs on this machine.
-    Local,
-    /// Those of whoever can send one.
-    All,
-}
+use live_ports::Listen;
 
 /// Whose packets a word says are heard.
 fn listen_of(word: &[u8]) -> Option<Listen>

@@ -7,9 +7,9 @@ ghost use Rattle.command_words.specs.LiveWords.{is_excluded, live_of, live_with,
 ghost use Rattle.command_words.specs.Answering.{GivesLive};
 
 use crate::fault::WordsFault;
-use crate::listen::Listen;
 use crate::live_options::LiveOptions;
 use crate::options::{RenderOptions, options_of};
+use live_ports::Listen;
 use sl_base::Name;
 use std::alloc::{AllocError, Global};
 use std::marker::Model;

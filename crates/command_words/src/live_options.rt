@@ -6,9 +6,10 @@ ghost use Rattle.sl_base.specs.Limits.{max_rate, max_quota};
 ghost use Rattle.command_words.specs.Words.{number_in, first_given, with_option};
 ghost use Rattle.command_words.specs.LiveWords.{max_port, max_channels, name_in, path_in, listen_in, none_live, with_other_option, with_live_option};
 
-use crate::listen::{Listen, listen_once};
+use crate::listen::listen_once;
 use crate::options::{Options, RenderOptions};
 use crate::values::{name_once, number_once, path_of};
+use live_ports::Listen;
 use sl_base::{MAX_QUOTA, MAX_RATE, Name};
 use std::marker::Model;
 

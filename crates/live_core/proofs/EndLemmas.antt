@@ -1,5 +1,5 @@
 -- A session that was closed may be settled, and is whole then.
-use Rattle.std.proofs.Common.{◌≡◌, ◌==◌, ℕ, Bool, true, false, List, [], ◌∷◌, ◌++◌, refl, sym, ap, ◌∙◌, subst}
+use Rattle.std.proofs.Common.{◌≡◌, ◌≤◌, ◌==◌, ℕ, Bool, true, false, List, [], ◌∷◌, ◌++◌, refl, sym, ap, ◌∙◌, subst}
 use Rattle.sl_base.specs.Limits.{max_session_frames}
 use Rattle.sl_base.specs.Counting.{Rose}
 use Rattle.audio_ends.specs.declared.state.AudioState.{AudioState}
@@ -49,8 +49,8 @@ link_cause old mid new Strange cause same = same.receives ∙ cause
 -- what was settled and given back
 pub has_settled : {A O L M P : Type 0} (l : Link L) (k : Keeper P) (c : Closed A O L M P)
     (s : Settlement A O L M P) (e : LiveEnd P A O L M) → SettledTo l k c s → StaysAsClosed c s →
-    IsEndOf s e → HasSettled l k c e
-has_settled l k c s e settled stays ends =
+    IsEndOf s e → e.frames ≤ max_session_frames → HasSettled l k c e
+has_settled l k c s e settled stays ends within =
     record {
       left = settled.0;
       told = settled.1;
@@ -66,6 +66,8 @@ has_settled l k c s e settled stays ends =
           (settling s.engine s.saver.saving x settled.1)) (sym ends.keeper) settled.4;
       journal = ends.journal;
       frames = ends.frames;
+      within = within;
+      refused = ends.refused;
       midi = ends.midi ∙ stays.midi;
       audio = ends.audio ∙ stays.audio;
       out = ends.out ∙ stays.out;
@@ -155,6 +157,7 @@ module _ {A O L M P : Type 0} (a : Source A) (o : Sink O) (l : Link L) (m : Sour
           osc = e.osc;
           midi = sym now.midi i;
           frames = sym now.frames i;
+          refused = sym now.refused i;
         }
 
     pub has_ended : HasEnded a o l m k b bindings channels d e
@@ -178,6 +181,7 @@ module _ {A O L M P : Type 0} (a : Source A) (o : Sink O) (l : Link L) (m : Sour
               given_is
               (is_whole k b bindings s t state memory h.ran c.rings h.closed.met now.left [] u
               now.is_left st y told_more))));
+          within = now.within;
           status = now.status;
           link_cause = subst (λ (x : Devices P A O L M). LinkCause (l.seen x.link)
               (l.seen e.devices.link) h.back.three.two.osc.ended) (sym h.started.devices)

@@ -1,12 +1,14 @@
 -- A session ends settled: all that was left is taken, fed and told, and it gives back its devices,
--- the journal, the account of each sender, how many frames were played, and a status.
+-- the journal, the account of each sender, how many frames were played, how often a loop refused
+-- something, and a status.
 -- "How a session ends" in docs/rules.md.
-use Rattle.std.specs.Prelude.{◌≡◌, ◌==◌, ℕ, Bool, true, false, List, [], Option}
+use Rattle.std.specs.Prelude.{◌≡◌, ◌≤◌, ◌==◌, ℕ, Bool, true, false, List, [], Option}
 use Rattle.sl_base.specs.Limits.{max_session_frames}
 use Rattle.sl_base.specs.Counting.{Rose}
 use Rattle.sl_commands.specs.declared.Reply.{Reply}
 use Rattle.sl_ports.specs.declared.keepers.Keeper.{Ghosts as Keeper}
 use Rattle.sl_ports.specs.declared.sinks.Sink.{Ghosts as Sink}
+use Rattle.whole_looper.specs.Loopers.{refused_in}
 use Rattle.loop_saver.specs.Savers.{SavingOf}
 use Rattle.midi_bindings.specs.declared.binding.Binding.{Binding}
 use Rattle.live_ports.specs.declared.link.Link.{Ghosts as Link}
@@ -57,6 +59,7 @@ pub record IsEndOf {A O L M P : Type 0} (s : Settlement A O L M P)
     (e : LiveEnd P A O L M) : Type 0 where
   pub journal : e.journal ≡ s.engine.journal
   pub frames : e.frames ≡ s.engine.frames
+  pub refused : e.refused ≡ refused_in s.engine.looper
   pub osc : e.osc ≡ s.osc
   pub midi : e.midi ≡ s.midi
   pub keeper : e.devices.keeper ≡ s.keeper
@@ -81,6 +84,8 @@ pub record HasSettled {A O L M P : Type 0} (l : Link L) (k : Keeper P) (c : Clos
       (settling engine saving e.devices.keeper told)
   pub journal : e.journal ≡ engine.journal
   pub frames : e.frames ≡ engine.frames
+  pub within : e.frames ≤ max_session_frames
+  pub refused : e.refused ≡ refused_in engine.looper
   pub midi : e.midi ≡ c.midi
   pub audio : e.devices.audio ≡ c.audio
   pub out : e.devices.out ≡ c.out
@@ -102,7 +107,13 @@ outside_at a o l m d =
 
 abbrev pub given_at : {A O L M P : Type 0} → LiveEnd P A O L M → GivenOf
 given_at e =
-    record { journal = e.journal.entries; osc = e.osc; midi = e.midi; frames = e.frames }
+    record {
+      journal = e.journal.entries;
+      osc = e.osc;
+      midi = e.midi;
+      frames = e.frames;
+      refused = e.refused;
+    }
 
 -- a session over these devices has ended: it is whole, and its status is the first that holds
 pub record HasEnded {A O L M P : Type 0} (a : Source A) (o : Sink O) (l : Link L) (m : Source M)
@@ -113,6 +124,7 @@ pub record HasEnded {A O L M P : Type 0} (a : Source A) (o : Sink O) (l : Link L
   pub midi_ended : MidiEnd
   pub whole : IsWholeSession k b channels bindings (outside_at a o l m d)
       (outside_at a o l m e.devices) (given_at e) state (lacked_memory osc_ended)
+  pub within : e.frames ≤ max_session_frames
   pub status : e.status ≡ status_of (lacked_memory osc_ended) (midi_failed midi_ended) state
       (e.frames == max_session_frames) (link_failed osc_ended)
   pub link_cause : LinkCause (l.seen d.link) (l.seen e.devices.link) osc_ended

@@ -1,8 +1,10 @@
 //! The end of a session.
 
-ghost use Rattle.std.specs.Prelude.{◌≡◌, []};
+ghost use Rattle.std.specs.Prelude.{◌≡◌, ◌≤◌, []};
+ghost use Rattle.sl_base.specs.Limits.{max_session_frames};
 ghost use Rattle.settling.specs.Settled.{MaySettle, unsettled};
-ghost use Rattle.live_core.specs.Ending.{HasSettled, SettledTo, StaysAsClosed, IsEndOf};
+ghost use Rattle.live_joining.specs.Causes.{lacked_memory, link_failed};
+ghost use Rattle.live_core.specs.Ending.{HasSettled, SettledTo, StaysAsClosed, IsEndOf, midi_failed};
 
 use crate::closing::Closed;
 use crate::devices::Devices;
@@ -22,8 +24,8 @@ use sl_ports::{Keeper, Sink};
 use std::alloc::Global;
 use std::sync::Wait;
 
-/// A session that has ended: its status, its devices, the journal, the account of each sender, and how
-/// many frames were played.
+/// A session that has ended: its status, its devices, the journal, the account of each sender, how
+/// many frames were played, and how often a loop refused an opening, a write or an extension.
 #[derive(Drop)]
 pub struct LiveEnd<P: Keeper, A: Source, O: Sink, L: Link, M: Source> {
     pub status: LiveStatus,
@@ -32,6 +34,7 @@ pub struct LiveEnd<P: Keeper, A: Source, O: Sink, L: Link, M: Source> {
     pub osc: Account,
     pub midi: Account,
     pub frames: u64,
+    pub refused: u64,
 }
 
 /// What is settled: the engine, the devices, the accounts, and why each activity ended.
@@ -108,11 +111,42 @@ fn settle_closed<P: Keeper, A: Source, O: Sink, L: Link, M: Source, R: Wait>(
     }
 }
 
+/// There was no memory to hear a packet.
+fn lacked_memory(ended: OscOver) -> bool
+    ensures { result ≡ lacked_memory ended }
+{
+    match ended {
+        OscOver::Memory => true,
+        _ => false,
+    }
+}
+
+/// A receive failed.
+fn link_failed(ended: OscOver) -> bool
+    ensures { result ≡ link_failed ended }
+{
+    match ended {
+        OscOver::LinkFault => true,
+        _ => false,
+    }
+}
+
+/// A read of MIDI failed.
+fn midi_failed(ended: MidiEnd) -> bool
+    ensures { result ≡ midi_failed ended }
+{
+    match ended {
+        MidiEnd::ReadFault => true,
+        _ => false,
+    }
+}
+
 /// What a settled session gives back.
 fn give_back<P: Keeper, A: Source, O: Sink, L: Link, M: Source>(
     settlement: Settlement<A, O, L, M, P>,
 ) -> LiveEnd<P, A, O, L, M>
-    ensures { IsEndOf settlement result }
+    ensures end { IsEndOf settlement result }
+    ensures within { result.frames ≤ max_session_frames }
 {
     let Settlement {
         engine,
@@ -129,12 +163,13 @@ fn give_back<P: Keeper, A: Source, O: Sink, L: Link, M: Source>(
         midi_ended,
     } = settlement;
     let frames = engine.frames_done();
+    let refused = engine.refused();
     let status = status_of(
-        osc_ended == OscOver::Memory,
-        midi_ended == MidiEnd::ReadFault,
+        lacked_memory(osc_ended),
+        midi_failed(midi_ended),
         state,
         frames == MAX_SESSION_FRAMES,
-        osc_ended == OscOver::LinkFault,
+        link_failed(osc_ended),
     );
     LiveEnd {
         status,
@@ -149,6 +184,7 @@ fn give_back<P: Keeper, A: Source, O: Sink, L: Link, M: Source>(
         osc,
         midi,
         frames,
+        refused,
     }
 }
 

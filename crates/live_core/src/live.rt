@@ -1,9 +1,11 @@
 //! A whole session.
 
-ghost use Rattle.std.specs.Prelude.{◌≡◌, ◌≤◌, length, IfOk, IfErr};
+ghost use Rattle.std.specs.Prelude.{◌≡◌, ◌≤◌, ◌<◌, length, map, IfOk, IfErr};
 ghost use Rattle.sl_base.specs.Limits.{max_chunks, max_quota, max_period};
 ghost use Rattle.wav_pcm.specs.WavText.{IsFormat};
 ghost use Rattle.looper_rules.specs.Reached.{AreLists};
+ghost use Rattle.looper_rules.specs.Room.{used};
+ghost use Rattle.whole_looper.specs.declared.fault.BeginFault.TheVariants.{Limit};
 ghost use Rattle.midi_bindings.specs.Texts.{AreBindings};
 ghost use Rattle.looper_engine.specs.Beginnings.{beginning_of};
 ghost use Rattle.live_core.specs.Ending.{HasEnded};
@@ -24,7 +26,7 @@ use std::time::Clock;
 
 /// Runs a session over these devices to its end. `channels` is 1 or 2, and a period has 1 to 8192
 /// frames. It waits, and isn't promised to return. Where it doesn't begin, its devices come back
-/// unused.
+/// unused; and a limit is the reason only where the lists need more chunks than there are.
 #[tactic(auto, using(crate::proofs::EndLemmas::may_end, crate::proofs::EndLemmas::has_ended))]
 pub fn live_core<
     X: ServesAudio<A, O> + ServesOsc<L> + ServesMidi<M> + ServesSaver<P> + Sync,
@@ -56,6 +58,8 @@ pub fn live_core<
     ensures ended { IfOk result (HasEnded A.Source O.Sink L.Link M.Source P.Keeper
         (beginning_of setup.now initial.now) bindings channels devices) }
     ensures unchanged { IfErr result (λ e. e.devices ≡ devices) }
+    ensures limit { IfErr result (λ e. e.fault ≡ Limit →
+        setup.now.chunks < used (map length initial.now)) }
 {
     match run_session(
         acts, alloc, rt, setup, initial, bindings, channels, period, devices,

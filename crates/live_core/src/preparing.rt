@@ -1,9 +1,11 @@
 //! What a session is made of, before it uses a device.
 
-ghost use Rattle.std.specs.Prelude.{◌≡◌, ◌≤◌, length, false, None, [], IfOk};
+ghost use Rattle.std.specs.Prelude.{◌≡◌, ◌≤◌, ◌<◌, length, map, false, None, [], IfOk, IfErr};
 ghost use Rattle.sl_base.specs.Limits.{max_chunks, max_quota, max_period};
 ghost use Rattle.wav_pcm.specs.WavText.{IsFormat};
 ghost use Rattle.looper_rules.specs.Reached.{AreLists};
+ghost use Rattle.looper_rules.specs.Room.{used};
+ghost use Rattle.whole_looper.specs.declared.fault.BeginFault.TheVariants.{Limit};
 ghost use Rattle.midi_bindings.specs.Texts.{AreBindings};
 ghost use Rattle.looper_engine.specs.Beginnings.{beginning_of};
 ghost use Rattle.senders.specs.Tallies.{empty_tally};
@@ -197,7 +199,9 @@ pub(crate) fn prepare<R: Wait>(
     requires format { IsFormat channels 16 }
     requires frames { 1 ≤ period }
     requires within { period ≤ max_period }
-    ensures { IfOk result (IsPrepared setup.now initial.now bindings channels) }
+    ensures prepared { IfOk result (IsPrepared setup.now initial.now bindings channels) }
+    ensures limit { IfErr result (λ fault. fault ≡ Limit →
+        setup.now.chunks < used (map length initial.now)) }
 {
     let engine = match Engine::new(alloc, setup, initial) {
         Ok(engine) => engine,

@@ -1,9 +1,11 @@
 //! A session, from its setup to where it may be settled.
 
-ghost use Rattle.std.specs.Prelude.{◌≡◌, ◌≤◌, length, IfOk, IfErr};
+ghost use Rattle.std.specs.Prelude.{◌≡◌, ◌≤◌, ◌<◌, length, map, IfOk, IfErr};
 ghost use Rattle.sl_base.specs.Limits.{max_chunks, max_quota, max_period};
 ghost use Rattle.wav_pcm.specs.WavText.{IsFormat};
 ghost use Rattle.looper_rules.specs.Reached.{AreLists};
+ghost use Rattle.looper_rules.specs.Room.{used};
+ghost use Rattle.whole_looper.specs.declared.fault.BeginFault.TheVariants.{Limit};
 ghost use Rattle.midi_bindings.specs.Texts.{AreBindings};
 ghost use Rattle.looper_engine.specs.Beginnings.{beginning_of};
 ghost use Rattle.live_core.specs.Closing.{HasClosed};
@@ -64,6 +66,8 @@ pub fn run_session<
     ensures closed { IfOk result (HasClosed A.Source O.Sink L.Link M.Source P.Keeper
         (beginning_of setup.now initial.now) bindings channels devices) }
     ensures unchanged { IfErr result (λ e. e.devices ≡ devices) }
+    ensures limit { IfErr result (λ e. e.fault ≡ Limit →
+        setup.now.chunks < used (map length initial.now)) }
 {
     let prepared = match prepare(alloc, rt, setup, initial, bindings, channels, period) {
         Ok(prepared) => prepared,

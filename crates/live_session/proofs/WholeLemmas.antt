@@ -17,6 +17,7 @@ use Rattle.wav_pcm.specs.WavText.{frame_size, samples}
 use Rattle.looper_rules.specs.Saves.{Save}
 use Rattle.looper_rules.specs.SaveBlocks.{blocks_for_all, IsMade, MayBeSent}
 use Rattle.looper_rules.specs.Run.{Ran}
+use Rattle.whole_looper.specs.Loopers.{refused_in}
 use Rattle.loop_saver.specs.Savers.{SavingOf}
 use Rattle.loop_saver.specs.Keeping.{Keeps}
 use Rattle.loop_saver.proofs.KeepLemmas.{keeps_then, are_outcomes}
@@ -476,16 +477,17 @@ module _ {P : Type 0} (k : Keeper P) (b : Beginning) (bindings : List Binding) (
             outcomes = outcomes;
             heard = h.osc.heard;
             frames = frames_are;
-            journal = journal_is;
-            commands = record {
+            refused = sym (ap (λ (r : Ran). refused_in r.looper) ran_is);
+            journal_is_stamped = journal_is;
+            journal_is_accepted = record {
               osc_are = last.osc ∙ sym osc_all
                   ∙ ap (λ (x : TallyOf). commands_in x.accepted) (sym no_more.tally);
               midi_are = last.midi ∙ sym midi_all;
             };
-            releases = releases_are;
-            packets = packets_are;
-            bytes = bytes_are;
-            plays = plays_are;
-            replies = answered;
-            files = files_are;
+            each_save_is_released = releases_are;
+            osc_is_of_packets = packets_are;
+            midi_is_of_bytes = bytes_are;
+            output_is_the_run = plays_are;
+            replies_are_sent = answered;
+            files_are_the_saves = files_are;
           }

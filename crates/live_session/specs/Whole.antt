@@ -11,6 +11,7 @@
 --   merge of them and of the answers to pings, each in its order, but for what is counted as not
 --   sent.
 -- - The files are those of the saves of the run, one save after another, by their outcomes.
+-- - What the loops refused is counted as in the run.
 -- So output, replies and saved loops are those of one looper that replays the journal.
 -- "A whole session" in docs/rules.md.
 use Rattle.std.specs.Prelude.{◌≡◌, ◌≤◌, ◌<◌, ℕ, Bool, true, false, List, [], ◌++◌, length, flat_map, IsTrue, is_some}
@@ -26,6 +27,7 @@ use Rattle.sl_ports.specs.declared.keepers.Keeper.{Ghosts as Keeper}
 use Rattle.sl_ports.specs.Texts.{Tells}
 use Rattle.wav_pcm.specs.WavText.{frame_size, samples}
 use Rattle.looper_rules.specs.Run.{Ran, run}
+use Rattle.whole_looper.specs.Loopers.{refused_in}
 use Rattle.loop_saver.specs.Keeping.{WroteSaves, failed_in}
 use Rattle.midi_bindings.specs.declared.binding.Binding.{Binding}
 use Rattle.senders.specs.declared.accepted.Accepted.{Accepted}
@@ -163,12 +165,14 @@ pub record OutsideOf (P : Type 0) : Type 0 where
   pub link : LinkSeen
   pub midi : SourceSeen
 
--- what a session gives back beside it: the journal, both accounts, and how many frames are done
+-- what a session gives back beside it: the journal, both accounts, how many frames are done, and how
+-- often a loop refused something
 pub record GivenOf : Type 0 where
   pub journal : List Entry
   pub osc : Account
   pub midi : Account
   pub frames : ℕ
+  pub refused : ℕ
 
 -- what stands outside of a session before it, and behind it once it is settled
 abbrev pub outside_of : {P : Type 0} → SessionOf P → OutsideOf P
@@ -199,6 +203,7 @@ given_by t u osc =
       osc = osc.sender.account;
       midi = t.midi.sender.account;
       frames = u.engine.frames;
+      refused = refused_in u.engine.looper;
     }
 
 -- a whole session, from what stood outside to what stands there now
@@ -209,12 +214,14 @@ pub record IsWholeSession {P : Type 0} (k : Keeper P) (b : Beginning) (channels 
   pub outcomes : List ℕ
   pub heard : List Packet
   pub frames : g.frames ≡ length input
-  pub journal : IsJournal (length b.settings.strips) g.frames g.journal
-  pub commands : HasCommands g.journal g.osc.tally.accepted g.midi.tally.accepted
-  pub releases : HasReleases b input g.journal outcomes
-  pub packets : IsOfPackets b.quota (length b.settings.strips) old.link new.link memory heard
-      g.osc
-  pub bytes : IsOfBytes b.quota bindings old.midi new.midi g.midi
-  pub plays : IsPlayed b channels old.audio new.audio old.out new.out input g.journal state
-  pub replies : AreAnswered b input g.journal heard old.link new.link g.osc
-  pub files : AreSaved k b input g.journal outcomes old.keeper new.keeper
+  pub refused : g.refused ≡ refused_in (run_of b g.journal input).looper
+  pub journal_is_stamped : IsJournal (length b.settings.strips) g.frames g.journal
+  pub journal_is_accepted : HasCommands g.journal g.osc.tally.accepted g.midi.tally.accepted
+  pub each_save_is_released : HasReleases b input g.journal outcomes
+  pub osc_is_of_packets : IsOfPackets b.quota (length b.settings.strips) old.link new.link memory
+      heard g.osc
+  pub midi_is_of_bytes : IsOfBytes b.quota bindings old.midi new.midi g.midi
+  pub output_is_the_run : IsPlayed b channels old.audio new.audio old.out new.out input g.journal
+      state
+  pub replies_are_sent : AreAnswered b input g.journal heard old.link new.link g.osc
+  pub files_are_the_saves : AreSaved k b input g.journal outcomes old.keeper new.keeper

@@ -1,24 +1,48 @@
-//! `looper`: the program. It hands its words to `looper_cli` over the working directory and
-//! standard output.
+//! `looper`: the program. It hands its words to `looper_cli` over the working directory and standard
+//! output, and for a live session over the real devices (`live`).
 #![tactic(auto)]
 
-use looper_cli::{Status, plain_run};
+mod account;
+mod live;
+mod say;
+
+use command_words::{Words, words_of};
+use console_lines::Status;
+use live_ports::{FileSource, StdSource, UdpLink};
+use live_run::Outside;
+use looper_cli::{asks_for_live, run};
+use say::{say_other_words, say_unkept, say_unwritten};
 use sl_ports::{DirKeeper, Sink, SinkAnswer, StdSink};
+use std::alloc::Global;
 use std::env::FillError;
-use std::fmt::Display;
+use std::fs::File;
 use std::process::ExitCode;
 use std::rt::Env;
+use std::sync::Wait;
+use std::thread::Threads;
+use std::time::Clock;
 use std::{env, io};
 
 const USAGE: &str = "looper: records phrases into loops and lets them repeat
 
-usage: looper render IN JOURNAL OUT [--period N] [--chunks N]
+usage: looper live [--port N] [--listen local|all] [--midi PATH] [--bind NAME]
+                   [--period N] [--channels N] [--chunks N] [--quota N]
+                   [--journal NAME] [--rate N] [--loops N | --session NAME]
+       looper render IN JOURNAL OUT [--period N] [--chunks N]
                      [--loops N | --session NAME]
        looper drill NUMBER STEPS
        looper show NAME
        looper --help
        looper --version
 
+live plays standard input into the loops and writes what is heard to standard
+output, both raw: signed 16-bit little-endian, --channels 1 or 2 (else 2) side
+by side, at --rate (else 48000). It takes commands as OSC messages on the UDP
+port --port (1 to 65535, else 9951), from this machine alone or, with --listen
+all, from everywhere; and as MIDI bytes from the device --midi, by the
+bindings --bind. It ends at the input's end or at /quit, and then writes the
+commands that it took to --journal, from which render makes the same sound.
+Each sender may have --quota commands accepted (1 to 1048576, else 262144).
 render plays the WAV file IN into the loops by the commands of JOURNAL, writes
 the files that the commands save, and then what is heard to the WAV file OUT.
 The loops are --loops empty ones (1 to 16, else 1), or those of the session
@@ -30,7 +54,9 @@ numbers. show tells the loops of a session: of the text NAME and the WAV files
 NAME-0.wav, NAME-1.wav and so on. Files stand in the working directory.
 
 status: 0 done, 2 other words, 3 a bad file, 4 a reading failed,
-        5 a write failed, 8 out of memory, 9 a limit is exceeded
+        5 a write failed, 6 the input ended within a frame,
+        7 a receive failed, 8 out of memory, 9 a limit is exceeded,
+        10 the longest session was played
 ";
 
 /// The arguments behind the program's path. The path isn't read: it is no word, and may be any
@@ -74,32 +100,8 @@ fn words(rt: &HostRuntime) -> io::Result<Vec<String>> {
     }
 }
 
-/// The words of an error, without the number that the system gives it.
-fn without_number(text: &str) -> &str {
-    match text.split_once(" (os error ") {
-        Some((words, _)) => words,
-        None => text,
-    }
-}
-
-/// Says on standard error what failed. Where there is no memory or no such stream, nothing is said.
-fn say<D: Display>(rt: &HostRuntime, what: &D) {
-    if let Ok(text) = format!(in rt.alloc(); "looper: {what}") {
-        let _ = eprintln!(rt; "{}", without_number(text.as_str()));
-    }
-}
-
-/// Says why standard output failed, if it did.
-fn say_unwritten(rt: &HostRuntime, console: &StdSink<&HostRuntime>) {
-    if let Some(error) = console.first_fault() {
-        if let Ok(text) = format!(in rt.alloc(); "cannot write standard output: {error}") {
-            say(rt, &text);
-        }
-    }
-}
-
 /// Prints a text that no run is needed for.
-fn print(rt: &HostRuntime, text: &str) -> u8 {
+fn print<R: Print + Eprint + Alloc<A = Global>>(rt: &R, text: &str) -> u8 {
     let mut console = StdSink::new(rt);
     let status = match console.write_all(text.as_bytes()) {
         SinkAnswer::Done => Status::Done,
@@ -109,35 +111,47 @@ fn print(rt: &HostRuntime, text: &str) -> u8 {
     status.number()
 }
 
-/// Runs the words, and says what failed.
-fn run(rt: &HostRuntime, words: &[String]) -> u8 {
-    let mut files = DirKeeper::new(rt);
-    let mut console = StdSink::new(rt);
-    let status = plain_run(rt.alloc(), words, &mut files, &mut console);
-    if status == Status::Words.number() {
-        say(
-            rt,
-            &"these words mean nothing here; looper --help shows what does",
-        );
+/// Runs the words over files and a console, and says what failed. The devices of a session are none.
+fn plain<C: Print + Drop + Send, R: Wait + Clock + Threads + Sync>(
+    host: &HostRuntime,
+    rt: &R,
+    words: &[String],
+    console: StdSink<C>,
+) -> u8 {
+    let outside = Outside {
+        keeper: DirKeeper::new(host),
+        audio: StdSource::new(host.reader()),
+        out: StdSink::new(host),
+        link: UdpLink::none(),
+        midi: FileSource::<File>::none(),
+        console,
+    };
+    let end = run(host.alloc(), rt, words, outside);
+    if end.status == Status::Words.number() {
+        say_other_words(host);
     }
-    if let Some(fault) = files.first_fault() {
-        say(rt, fault);
-    }
-    say_unwritten(rt, &console);
-    status
+    say_unkept(host, &end.outside.keeper);
+    say_unwritten(host, &end.outside.console);
+    end.status
 }
 
-fn status(rt: &HostRuntime, words: &[String]) -> u8 {
+/// Runs the words over the ends that they want.
+fn command<R: Wait + Clock + Threads + Sync>(host: &HostRuntime, rt: &R, words: &[String]) -> u8 {
     match words {
-        [word] if word.as_str() == "--help" => print(rt, USAGE),
-        [word] if word.as_str() == "--version" => print(rt, "looper 0.1.0\n"),
-        _ => run(rt, words),
+        [word] if word.as_str() == "--help" => return print(host, USAGE),
+        [word] if word.as_str() == "--version" => return print(host, "looper 0.1.0\n"),
+        _ => {}
+    }
+    match words_of(host.alloc(), words) {
+        Ok(Words::Live(asked)) => live::play(host, rt, words, &asked),
+        _ if asks_for_live(words) => plain(host, rt, words, StdSink::new(host.stderr())),
+        _ => plain(host, rt, words, StdSink::new(host)),
     }
 }
 
 fn main(rt: HostRuntime) -> ExitCode {
     match words(&rt) {
-        Ok(words) => ExitCode::from(status(&rt, &words)),
+        Ok(words) => ExitCode::from(command(&rt, &rt, &words)),
         Err(_) => ExitCode::from(Status::Memory.number()),
     }
 }

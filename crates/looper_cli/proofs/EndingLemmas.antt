@@ -14,13 +14,13 @@ use Rattle.run_files.proofs.PartLemmas.{loaded_or_bad}
 use Rattle.run_files.proofs.RunLemmas.{run_or_bad, run_or_limit}
 use Rattle.command_words.specs.Words.{Asked, renders, drills, shows}
 use Rattle.looper_cli.specs.Named.{named_of, IsNamedBy}
-use Rattle.looper_cli.specs.Console.{TellsDone, TellsFault}
-use Rattle.looper_cli.specs.Statuses.{status_number, status_of}
-use Rattle.looper_cli.specs.Endings.{StaysWhole, KeepsCounts, Does, IsDone, IsBadFor, IsBeyondFor, CannotWrite, Ends}
-use Rattle.looper_cli.specs.declared.status.RunFault.{RunFault}
-use Rattle.looper_cli.specs.declared.status.RunFault.TheVariants.{BadFile as IsBad, Limit as Beyond, Reading, Writing, Memory as Lacking}
-use Rattle.looper_cli.specs.declared.status.Status.{Status}
-use Rattle.looper_cli.specs.declared.status.Status.TheVariants.{Done, Words, BadFile, ReadFault, WriteFault, Memory, Limit}
+use Rattle.console_lines.specs.Telling.{TellsDone, TellsFault}
+use Rattle.console_lines.specs.Statuses.{status_number, status_of}
+use Rattle.looper_cli.specs.Endings.{StaysWhole, KeepsCounts, CountsBy, Does, IsDone, IsBadFor, IsBeyondFor, CannotWrite, Ends}
+use Rattle.console_lines.specs.declared.status.RunFault.{RunFault}
+use Rattle.console_lines.specs.declared.status.RunFault.TheVariants.{BadFile as IsBad, Limit as Beyond, Reading, Writing, Memory as Lacking}
+use Rattle.console_lines.specs.declared.status.Status.{Status}
+use Rattle.console_lines.specs.declared.status.Status.TheVariants.{Done, Words, BadFile, ReadFault, WriteFault, Memory, Limit}
 
 -- a command that is done and told so
 told_done :

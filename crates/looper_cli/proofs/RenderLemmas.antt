@@ -23,12 +23,13 @@ use Rattle.run_files.specs.declared.run.FilesFault.{FilesFault}
 use Rattle.run_files.specs.declared.run.FilesFault.TheVariants.{File as BadOne, Read as NotRead, Memory as NoRoom, Limit as TooMuch}
 use Rattle.command_words.specs.Words.{RenderAsked}
 use Rattle.looper_cli.specs.Named.{named_of}
-use Rattle.looper_cli.specs.Console.{done_text}
-use Rattle.looper_cli.specs.Statuses.{status_line, status_of}
-use Rattle.looper_cli.specs.Endings.{input_of, looper_of, out_file, files_of_run, Renders, RendersFirst, StopsRendering, KeepsCounts, FailsToWrite, FailsBy, PassesFiles, PassesPlay}
-use Rattle.looper_cli.specs.declared.status.RunFault.{RunFault}
-use Rattle.looper_cli.specs.declared.status.RunFault.TheVariants.{Memory as Lacking}
-use Rattle.looper_cli.specs.declared.status.Status.TheVariants.{Done}
+use Rattle.console_lines.specs.Telling.{done_text}
+use Rattle.console_lines.specs.Statuses.{status_line, status_of}
+use Rattle.looper_cli.specs.Endings.{input_of, looper_of, out_file, files_of_run, Renders, RendersFirst, StopsRendering, StaysWhole, KeepsCounts, FailsToWrite, FailsBy, PassesPlay}
+use Rattle.console_lines.specs.Faults.{PassesFiles}
+use Rattle.console_lines.specs.declared.status.RunFault.{RunFault}
+use Rattle.console_lines.specs.declared.status.RunFault.TheVariants.{Memory as Lacking}
+use Rattle.console_lines.specs.declared.status.Status.TheVariants.{Done}
 
 -- the answer of a reading that ended with a fault
 abbrev pub unread : FilesFault → Result RunFiles FilesFault

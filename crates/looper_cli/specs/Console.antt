@@ -1,38 +1,16 @@
--- What a run tells the console, a text of lines. The last one is that of the status.
--- A run that is done tells before it its replies and numbers, and a bad file is named before it
--- with its fault and its line. A drill tells one line of numbers. A session that was looked at has
--- a line for each loop. Want of memory tells nothing. "The console" in docs/formats.md.
-use Rattle.std.specs.Prelude.{◌≡◌, ℕ, ◌+◌, List, ◌∷◌, [], ◌++◌, length, sum_by, codes}
+-- What a command that is done tells the console, before the line of its status: a run its replies
+-- and numbers, a drill one line of numbers, and a session that was looked at a line for each loop.
+-- "The console" in docs/formats.md.
+use Rattle.std.specs.Prelude.{ℕ, ◌+◌, List, ◌∷◌, [], ◌++◌, length, sum_by, codes}
 use Rattle.std.specs.Fmt.{decimal, signed_decimal}
-use Rattle.std.specs.Io.KnownBytes.{Appends}
-use Rattle.sl_base.specs.Counting.{Rose}
 use Rattle.sl_commands.specs.declared.StripSettings.{StripSettings}
 use Rattle.sl_commands.specs.Settings.{LooperSettings}
-use Rattle.sl_ports.specs.Effects.{TellsTo}
-use Rattle.sl_ports.specs.Texts.{AppendsPrefix}
-use Rattle.sl_ports.specs.declared.sinks.Sink.{Ghosts as Sink}
 use Rattle.ring_world.specs.declared.summary.Summary.{Summary}
 use Rattle.ring_world.specs.Drills.{drill_summary}
 use Rattle.command_words.specs.Words.{DrillAsked}
-use Rattle.looper_cli.specs.Statuses.{status_line}
-use Rattle.looper_cli.specs.declared.status.RunFault.{RunFault}
-use Rattle.looper_cli.specs.declared.status.RunFault.TheVariants.{BadFile as IsBad, Limit as Beyond, Reading, Writing, Memory as Lacking}
-use Rattle.looper_cli.specs.declared.status.Status.{Status}
-use Rattle.looper_cli.specs.declared.status.Status.TheVariants.{Done, Words, BadFile, ReadFault, WriteFault, Memory, Limit}
-
--- a fault and its line
-abbrev pub fault_text : ℕ → ℕ → List ℕ
-fault_text kind line =
-    codes " fault " ++ (decimal kind ++ (codes " line " ++ (decimal line ++ (10 ∷ []))))
-
--- of a bad file
-abbrev pub bad_file_text : List ℕ → ℕ → ℕ → List ℕ
-bad_file_text name kind line =
-    codes "file " ++ (name ++ (fault_text kind line ++ status_line BadFile))
-
--- of a run that is done, behind its replies and numbers
-abbrev pub done_text : List ℕ → List ℕ
-done_text text = text ++ status_line Done
+use Rattle.console_lines.specs.Statuses.{status_line}
+use Rattle.console_lines.specs.Telling.{done_text}
+use Rattle.console_lines.specs.declared.status.Status.TheVariants.{Done}
 
 -- the words that asked for a drill
 abbrev pub drill_words : DrillAsked → List ℕ
@@ -87,23 +65,3 @@ strips_text strips =
 -- of a session that was looked at
 abbrev pub show_text : LooperSettings → List ℕ
 show_text settings = strips_text settings.strips
-
--- what is told of a run that isn't done
-abbrev pub TellsFault : {C : Type 0} → Sink C → C → C → RunFault → Type 0
-TellsFault s old new (IsBad name kind line) = TellsTo s old new (bad_file_text name kind line)
-TellsFault s old new Beyond = TellsTo s old new (status_line Limit)
-TellsFault s old new Reading = TellsTo s old new (status_line ReadFault)
-TellsFault s old new Writing = TellsTo s old new (status_line WriteFault)
-TellsFault s old new Lacking = new ≡ old
-
--- what is told of a run that is done: its text, or a prefix of it where the count of faults rose
-abbrev pub TellsDone : {C : Type 0} → Sink C → C → C → List ℕ → Status → Type 0
-TellsDone s old new text Done = Appends (s.held old) (s.held new) text
-    × (s.faults new ≡ s.faults old)
-TellsDone s old new text WriteFault = Rose (s.faults old) (s.faults new)
-    × AppendsPrefix (s.held old) (s.held new) text
-TellsDone s old new text Words = ⊥
-TellsDone s old new text BadFile = ⊥
-TellsDone s old new text ReadFault = ⊥
-TellsDone s old new text Memory = ⊥
-TellsDone s old new text Limit = ⊥

@@ -42,16 +42,15 @@ use Rattle.journal_run.specs.Performing.{ran_over, saved_by}
 use Rattle.save_feeding.specs.declared.stopped.Stopped.{Stopped}
 use Rattle.save_feeding.specs.declared.stopped.Stopped.TheVariants.{Writing as Unwritten, Memory as Wanted}
 use Rattle.run_files.specs.AllFiles.{Contents, IsRunOf, ExceedsLimit, FirstBad}
-use Rattle.run_files.specs.declared.run.FilesFault.{FilesFault}
-use Rattle.run_files.specs.declared.run.FilesFault.TheVariants.{File as BadOne, Read as NotRead, Memory as NoRoom, Limit as TooMuch}
 use Rattle.command_words.specs.Words.{RenderAsked, DrillAsked, Asked, renders, drills, shows}
 use Rattle.looper_cli.specs.Named.{named_of}
-use Rattle.looper_cli.specs.Console.{bad_file_text, done_text, drill_text, show_text}
-use Rattle.looper_cli.specs.Statuses.{status_line, status_of}
-use Rattle.looper_cli.specs.declared.status.RunFault.{RunFault}
-use Rattle.looper_cli.specs.declared.status.RunFault.TheVariants.{BadFile as IsBad, Limit as Beyond, Reading, Writing, Memory as Lacking}
-use Rattle.looper_cli.specs.declared.status.Status.{Status}
-use Rattle.looper_cli.specs.declared.status.Status.TheVariants.{Done, Words, BadFile, ReadFault, WriteFault, Memory, Limit}
+use Rattle.console_lines.specs.Telling.{bad_file_text, done_text}
+use Rattle.looper_cli.specs.Console.{drill_text, show_text}
+use Rattle.console_lines.specs.Statuses.{status_line, status_of}
+use Rattle.console_lines.specs.declared.status.RunFault.{RunFault}
+use Rattle.console_lines.specs.declared.status.RunFault.TheVariants.{BadFile as IsBad, Limit as Beyond, Reading, Writing, Memory as Lacking}
+use Rattle.console_lines.specs.declared.status.Status.{Status}
+use Rattle.console_lines.specs.declared.status.Status.TheVariants.{Done, Words, BadFile, ReadFault, WriteFault, Memory, Limit}
 
 -- what a run goes over, and the looper that it begins with
 abbrev pub input_of : Contents → InputOf
@@ -148,13 +147,7 @@ Leaves k r old new (Ok text) =
     Renders r (k.files old) (k.files new) (λ said. string_bytes text ≡ said) × StaysWhole k old new
 Leaves k r old new (Err fault) = FailsBy k r old new fault
 
--- why files aren't a run, or a session isn't loaded, or a run gives nothing, is handed on
-abbrev pub PassesFiles : FilesFault → RunFault → Type 0
-PassesFiles (BadOne name kind line) result = result ≡ IsBad name kind line
-PassesFiles NotRead result = result ≡ Reading
-PassesFiles NoRoom result = result ≡ Lacking
-PassesFiles TooMuch result = result ≡ Beyond
-
+-- why a session isn't loaded, or a run gives nothing, is handed on
 abbrev pub PassesLoad : LoadFault → RunFault → Type 0
 PassesLoad (BadPart name kind line) result = result ≡ IsBad name kind line
 PassesLoad Unread result = result ≡ Reading

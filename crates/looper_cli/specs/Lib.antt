@@ -1,4 +1,4 @@
 pub mod Named
-pub mod Statuses
 pub mod Console
 pub mod Endings
+pub mod Top

@@ -2,11 +2,12 @@
 
 ghost use Rattle.std.specs.Prelude.{◌≡◌, ◌++◌, IfOk, OnOk};
 ghost use Rattle.std.specs.String.{string_bytes};
-ghost use Rattle.looper_cli.specs.Console.{drill_words, first_numbers, last_numbers, drill_line, done_text};
+ghost use Rattle.console_lines.specs.Telling.{done_text};
+ghost use Rattle.looper_cli.specs.Console.{drill_words, first_numbers, last_numbers, drill_line};
 ghost use Rattle.looper_cli.specs.Endings.{Drills};
 
-use crate::status::{RunFault, Status};
 use command_words::Drill;
+use console_lines::{RunFault, Status};
 use ring_world::{Summary, drill as run_drill};
 use std::alloc::{AllocError, Global};
 

@@ -1,4 +1,4 @@
-//! The commands that play no device: what they do, printing and the top call.
+//! The commands: what they do, printing and the top calls.
 //!
 //! - `plain_run` does what the words ask for, over a keeper of files and a console, and gives the
 //!   exit status. How it ends is said for each status in `specs/Endings`: what was written, what
@@ -13,18 +13,18 @@
 //!   file.
 //! - `show` loads a session, and gives the text that tells of its loops. It writes nothing.
 //!
-//! Begin with `top`, then `render`; `status` has the statuses and faults with their lines. The forms
-//! are "The words of the command line", "The console" and "Statuses" in docs/formats.md, and what is
-//! heard is "The run" in docs/rules.md.
+//! Begin with `top`, then `render`; `program` has the call of the program, `run`, which plays a live
+//! session or hands its words to `plain_run`. The forms are "The words of the command line", "The
+//! console" and "Statuses" in docs/formats.md, and what is heard is "The run" in docs/rules.md.
 #![tactic(auto)]
 
-mod console;
 mod drill;
+mod program;
 mod render;
 mod show;
 mod sources;
-mod status;
 mod top;
 
-pub use status::Status;
+pub use console_lines::Status;
+pub use program::{asks_for_live, run};
 pub use top::plain_run;

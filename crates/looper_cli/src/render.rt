@@ -4,31 +4,19 @@ ghost use Rattle.std.specs.Prelude.{◌≡◌, ◌++◌, OnOk, IfErr};
 ghost use Rattle.std.specs.String.{string_bytes};
 ghost use Rattle.run_files.specs.Named.{IsNamed};
 ghost use Rattle.looper_cli.specs.Named.{named_of};
-ghost use Rattle.looper_cli.specs.Statuses.{status_line};
-ghost use Rattle.looper_cli.specs.Endings.{CountsBy, Leaves, PassesFiles, PassesPlay};
-ghost use Rattle.looper_cli.specs.declared.status.RunFault.TheVariants.{Memory as Lacking};
-ghost use Rattle.looper_cli.specs.declared.status.Status.TheVariants.{Done};
+ghost use Rattle.console_lines.specs.Statuses.{status_line};
+ghost use Rattle.looper_cli.specs.Endings.{CountsBy, Leaves, PassesPlay};
+ghost use Rattle.console_lines.specs.declared.status.RunFault.TheVariants.{Memory as Lacking};
+ghost use Rattle.console_lines.specs.declared.status.Status.TheVariants.{Done};
 
 use crate::sources::sources_of;
-use crate::status::{RunFault, Status};
 use command_words::Render;
+use console_lines::{RunFault, Status, fault_of};
 use journal_run::{Performed, play};
-use run_files::{FilesFault, read_run};
+use run_files::read_run;
 use save_feeding::Stopped;
 use sl_ports::{KeepAnswer, Keeper};
 use std::alloc::Global;
-
-/// Why files aren't a run, as the fault of the run.
-fn fault_of(fault: FilesFault) -> RunFault
-    ensures { PassesFiles fault result }
-{
-    match fault {
-        FilesFault::File(name, kind, line) => RunFault::BadFile(name, kind, line),
-        FilesFault::Read => RunFault::Reading,
-        FilesFault::Memory => RunFault::Memory,
-        FilesFault::Limit => RunFault::Limit,
-    }
-}
 
 /// Why a run gives nothing, as its fault.
 fn play_fault_of(fault: Stopped) -> RunFault

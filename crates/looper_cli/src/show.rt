@@ -6,8 +6,8 @@ ghost use Rattle.looper_cli.specs.Console.{loop_line, loop_lines_then, length_in
 ghost use Rattle.looper_cli.specs.Endings.{CountsBy, LooksAt, PassesLoad};
 ghost use Rattle.sl_base.specs.Limits.{max_loops};
 
-use crate::status::{RunFault, Status};
 use command_words::Show;
+use console_lines::{RunFault, Status};
 use session_file::{LoadFault, load};
 use sl_base::MAX_LOOPS;
 use sl_commands::{Settings, StripSettings};

@@ -9,16 +9,15 @@ ghost use Rattle.sl_ports.specs.Texts.{AppendsPrefix};
 ghost use Rattle.command_words.specs.Answering.{asked_by};
 ghost use Rattle.looper_cli.specs.Named.{IsNamedBy};
 ghost use Rattle.looper_cli.specs.Endings.{Ends, Does, CountsBy, KeepsCounts, StaysWhole, IsDone, NamesBad, IsBadFor, CannotWrite, IsBeyondFor, WritesAtMost};
-ghost use Rattle.looper_cli.specs.Statuses.{IsStatusNumber, status_line};
+ghost use Rattle.console_lines.specs.Statuses.{IsStatusNumber, status_line};
 ghost use Rattle.command_words.specs.Words.{asked_in};
-ghost use Rattle.looper_cli.specs.declared.status.Status.TheVariants.{Words as Other, ReadFault, WriteFault, Limit};
+ghost use Rattle.console_lines.specs.declared.status.Status.TheVariants.{Words as Other, ReadFault, WriteFault, Limit};
 
-use crate::console::{tell, tell_done, tell_fault};
 use crate::drill::drill;
 use crate::render::render;
 use crate::show::show;
-use crate::status::{RunFault, Status};
 use command_words::{Plain, plain_words};
+use console_lines::{RunFault, Status, tell, tell_done, tell_fault};
 use sl_ports::{Keeper, Sink};
 use std::alloc::Global;
 

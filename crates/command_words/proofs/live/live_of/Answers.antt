@@ -1,6 +1,6 @@
 use Rattle.std.proofs.Common.{rules, ◌≡◌}
 use Rattle.command_words.specs.Words.{given_or}
-use Rattle.command_words.specs.declared.listen.Listen.TheVariants.{Local}
+use Rattle.live_ports.specs.declared.udp_link.Listen.TheVariants.{Local}
 use Rattle.command_words.specs.LiveWords.{LiveGiven}
 use Rattle.command_words.proofs.live.live_of.Goals as goal
 

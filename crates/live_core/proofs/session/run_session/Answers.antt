@@ -7,17 +7,17 @@ use Rattle.live_core.proofs.session.run_session.Goals as goal
 pub run-back-requires-clause-audio : goal.run-back-requires-clause-audio
 run-back-requires-clause-audio g c κs within =
     (c.start-parts.ensures c.args.setup.now c.args.initial.now c.args.bindings c.args.channels
-    c.in-Ok.ensures).audio
+    c.in-Ok.ensures.prepared).audio
 
 pub run-back-requires-clause-saver : goal.run-back-requires-clause-saver
 run-back-requires-clause-saver g c κs within =
     (c.start-parts.ensures c.args.setup.now c.args.initial.now c.args.bindings c.args.channels
-    c.in-Ok.ensures).saver
+    c.in-Ok.ensures.prepared).saver
 
 pub close-requires : goal.close-requires
 close-requires g c =
     let started = c.start-parts.ensures c.args.setup.now c.args.initial.now c.args.bindings
-    c.args.channels c.in-Ok.ensures in
+    c.args.channels c.in-Ok.ensures.prepared in
     let parts = c.start-parts.result in
     let back = c.run-back.result in
     same_rings g.P.Keeper (beginning_of c.args.setup.now c.args.initial.now) c.args.bindings
@@ -30,7 +30,7 @@ close-requires g c =
 pub returns-clause-closed : goal.returns-clause-closed
 returns-clause-closed g c =
     let started = c.start-parts.ensures c.args.setup.now c.args.initial.now c.args.bindings
-    c.args.channels c.in-Ok.ensures in
+    c.args.channels c.in-Ok.ensures.prepared in
     record {
       parts = c.start-parts.result;
       back = c.run-back.result;

@@ -4,7 +4,7 @@ use Rattle.std.specs.declared.alloc.Global.{Global}
 use Rattle.sl_ports.specs.Files.{put_told}
 use Rattle.run_files.specs.Readings.{told_of}
 use Rattle.command_words.specs.Words.{RenderAsked}
-use Rattle.looper_cli.specs.declared.status.RunFault.TheVariants.{Memory as Lacking}
+use Rattle.console_lines.specs.declared.status.RunFault.TheVariants.{Memory as Lacking}
 use Rattle.looper_cli.proofs.RenderLemmas.{unread_fails, played_so, unplayed, gave, unplayed_fails, untold_fails, run_is_done, out_is_left, unread_counts, unplayed_counts, lists_fit}
 use Rattle.looper_cli.proofs.render.render.Goals as goal
 

@@ -1,4 +1,4 @@
-use Rattle.looper_cli.proofs.console.+push_number.Given as goal
+use Rattle.console_lines.proofs.telling.+push_number.Given as goal
 
 abbrev pub decreases-push_number : goal.decreases-push_number
 decreases-push_number l = l.number

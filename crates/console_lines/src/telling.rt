@@ -3,8 +3,8 @@
 ghost use Rattle.std.specs.Prelude.{◌≡◌, ◌≤◌, ◌<◌, ◌+◌, [], ◌∷◌, ◌++◌, length};
 ghost use Rattle.std.specs.Fmt.{decimal};
 ghost use Rattle.sl_ports.specs.Effects.{TellsTo};
-ghost use Rattle.looper_cli.specs.Console.{fault_text, bad_file_text, TellsFault, TellsDone};
-ghost use Rattle.looper_cli.specs.Statuses.{status_of};
+ghost use Rattle.console_lines.specs.Telling.{fault_text, bad_file_text, TellsFault, TellsDone};
+ghost use Rattle.console_lines.specs.Statuses.{status_of};
 
 use crate::status::{RunFault, Status};
 use arrayvec::ArrayString;
@@ -29,7 +29,7 @@ fn push_digit(text: &mut ArrayString<128>, digit: u8)
 }
 
 /// Puts the digits of a number behind the text.
-#[tactic(auto, using(crate::proofs::ConsoleLemmas::one_digit, crate::proofs::ConsoleLemmas::more_digits, crate::proofs::ConsoleLemmas::one_has_room, crate::proofs::ConsoleLemmas::more_has_room))]
+#[tactic(auto, using(crate::proofs::NumberLemmas::one_digit, crate::proofs::NumberLemmas::more_digits, crate::proofs::NumberLemmas::one_has_room, crate::proofs::NumberLemmas::more_has_room))]
 fn push_number(text: &mut ArrayString<128>, number: u32)
     requires { length text.old.bytes + length (decimal number) ≤ 128 }
     ensures bytes { text.new.bytes ≡ text.old.bytes ++ decimal number }
@@ -44,7 +44,7 @@ fn push_number(text: &mut ArrayString<128>, number: u32)
 }
 
 /// Puts a fault and its line behind the text.
-#[tactic(auto, using(crate::proofs::ConsoleLemmas::short_kind, crate::proofs::ConsoleLemmas::short_line))]
+#[tactic(auto, using(crate::proofs::NumberLemmas::short_kind, crate::proofs::NumberLemmas::short_line))]
 fn push_fault(text: &mut ArrayString<128>, kind: u8, line: u32)
     requires { length text.old.bytes + 32 ≤ 128 }
     ensures bytes { text.new.bytes ≡ text.old.bytes ++ fault_text kind line }

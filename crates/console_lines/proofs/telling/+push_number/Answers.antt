@@ -1,6 +1,6 @@
 use Rattle.std.proofs.Common.{arith}
-use Rattle.looper_cli.proofs.ConsoleLemmas.{more_has_room}
-use Rattle.looper_cli.proofs.console.+push_number.Goals as goal
+use Rattle.console_lines.proofs.NumberLemmas.{more_has_room}
+use Rattle.console_lines.proofs.telling.+push_number.Goals as goal
 
 pub push_digit-requires-else-number-lt10-clause-room : goal.push_digit-requires-else-number-lt10-clause-room
 push_digit-requires-else-number-lt10-clause-room t c =

@@ -1,7 +1,7 @@
 //! How a run ends, and why it isn't done.
 
 ghost use Rattle.std.specs.Prelude.{◌≡◌};
-ghost use Rattle.looper_cli.specs.Statuses.{status_number, status_line, status_of};
+ghost use Rattle.console_lines.specs.Statuses.{status_number, status_line, status_of};
 
 use sl_base::Name;
 

@@ -1,0 +1,4 @@
+pub mod FirstLemmas
+pub mod CauseLemmas
+pub mod RunLemmas
+pub mod StatusLemmas
