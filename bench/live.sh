@@ -24,7 +24,7 @@ import tempfile
 import threading
 import time
 
-from live_session import Live, noise, osc, write_wav
+from live_session import Live, drops, noise, osc, write_wav
 
 PROGRAM, RUNS, PARTS = sys.argv[1], int(sys.argv[2]), sys.argv[3:]
 SECONDS = int(os.environ.get('SECONDS', '60'))
@@ -162,16 +162,6 @@ def start():
             ', 32768 chunks' if words else '', statistics.median(told), max(told), len(told)), flush=True)
 
 
-def drops(port):
-    """How many packets to this port the kernel dropped."""
-    with open('/proc/net/udp') as file:
-        for line in file:
-            words = line.split()
-            if words[1].endswith(':%04X' % port):
-                return int(words[-1])
-    return 0
-
-
 def gets():
     count = 20000
     for words in ([], ['--quota', '5000']):
@@ -191,12 +181,12 @@ def gets():
             live.finish()
         finally:
             live.stop()
-        # The pings and the quit were sent beside them.
+        # The quit was sent beside them, and pings; one whose answer didn't come may have been dropped on either way.
         accepted, refused = live.closing()['osc'], live.refusals('OSC')
         beside = 1 + live.pings - sum(address.startswith('/here/') for address, _ in live.answers)
-        print('%d gets in %.2f s%s: %d commands accepted, %d answered, %d refused, %d packets dropped by the kernel: %s' % (
-            count, took, ' with a quota of 5000' if words else '', accepted, live.count('/answer/0'), refused, lost,
-            'they add up' if accepted + refused + lost == count + beside else 'they do not add up'), flush=True)
+        print('%d gets in %.2f s%s: %d commands accepted, %d answers (%d more dropped here), %d refused, %d packets dropped by the kernel: %s' % (
+            count, took, ' with a quota of 5000' if words else '', accepted, live.count('/answer/0'), live.missed, refused, lost,
+            'they add up' if count < accepted + refused + lost <= count + beside else 'they do not add up'), flush=True)
 
 
 with tempfile.TemporaryDirectory(prefix='looper_bench_') as folder:

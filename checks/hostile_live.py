@@ -223,7 +223,8 @@ def played(folder, words=(), audio=None, channels=2, listens=True):
 
 def listener_goes(folder):
     """The program that listens ends. So does the session, with status 5, and all that it has is there."""
-    live = played(folder, JOURNAL)
+    # More than a pipe holds, so that it is noticed.
+    live = played(folder, JOURNAL, noise(45, 4000 * 64, 2))
     try:
         live.at(20 * 64, 'hit 0 undo', 'session set')
         live.wait(lambda: len(live.out) >= 19 * 64 * live.step, 'the sound')

@@ -63,6 +63,16 @@ def free_port():
         return sock.getsockname()[1]
 
 
+def drops(port):
+    """How many packets to this port the kernel dropped."""
+    with open('/proc/net/udp') as file:
+        for line in file:
+            words = line.split()
+            if words[1].endswith(':%04X' % port):
+                return int(words[-1])
+    return 0
+
+
 class Failure(Exception):
     """What was waited for didn't come."""
 
@@ -76,7 +86,7 @@ class Live:
         self.step = 2 * channels
         self.given, self.out, self.told, self.sent, self.answers = 0, bytearray(), '', [], []
         self.changed = threading.Condition()
-        self.number = self.pings = 0
+        self.number = self.pings = self.missed = 0
         self.gone = False
         self.child = None
         self.begin(listens)
@@ -273,6 +283,7 @@ class Live:
         for thread in self.threads[:2]:
             thread.join(WAIT)
         self.wait_quiet()
+        self.missed = drops(self.sock.getsockname()[1])
         self.stop()
         return status
 
