@@ -1,4 +1,5 @@
 # make demo      builds the proved program and runs it on examples/first-loop/ in a fresh folder
+# make live-demo plays a session live, with no sound card, and renders its journal over the same input, in a fresh folder
 # make examples  renders every session of examples/ into out/examples, and says what each second has
 # make picture   draws one of them as docs/two-loops.svg
 # make test      the gate: every proof, must-fail edit, test and program, and the repository's own checks
@@ -10,7 +11,7 @@ PREFIX ?= /usr/local
 PROGRAM = crates/looper/out/looper
 DEMO = out/demo
 
-.PHONY: all demo examples picture test install deb
+.PHONY: all demo live-demo examples picture test install deb
 
 all:
 	@tools/build looper
@@ -27,6 +28,12 @@ demo: all
 	@echo "'make examples' renders all sessions of examples/ into out/examples:"
 	@sed -n 's/^| \[\([^]]*\)\].*| \(.*\) |$$/  \1: \2/p' examples/README.md
 	@echo "To hear one: aplay out/examples/layers/out.wav, or sox out/examples/layers/out.wav -d"
+
+live-demo: all
+	rm -rf $(DEMO)-live
+	@examples/live/demo.py $(PROGRAM) $(DEMO)-live
+	@echo
+	@echo "Its files are in $(DEMO)-live. To play one yourself on a sound card: tools/play default --journal take.txt"
 
 examples: all
 	rm -rf out/examples

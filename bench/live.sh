@@ -92,7 +92,8 @@ def rendered(period, words):
 
 
 def speed():
-    audio = noise(1, RATE, 2) * SECONDS
+    # Whole periods of each size: what is left of one is played only where the input ends.
+    audio = noise(1, RATE * SECONDS // 1024 * 1024, 2)
     write_wav('in.wav', 2, RATE, audio)
     words = ['--session', 'set', '--chunks', '32768']
     for loops in (1, 4, 16):
