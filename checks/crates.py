@@ -14,7 +14,7 @@ import sys
 
 os.chdir(os.path.dirname(os.path.dirname(os.path.realpath(__file__))))
 # Crates that no other stands on: they measure, read vectors or test.
-BESIDE = ['vectors', 'benches', 'worked_runs', 'ends']
+BESIDE = ['vectors', 'benches', 'worked_runs', 'live_runs', 'ends']
 passed, failed = 0, 0
 
 
