@@ -1,5 +1,6 @@
 -- How a run begins and ends.
-use Rattle.std.proofs.Common.{◌≡◌, ℕ, ◌-◌, ◌≤◌, ◌<◌, ◌^◌, List, [], ◌++◌, length, take, refl, sym, ap, ap₂, ◌∙◌, subst, arith, append-nil, append_assoc}
+use Rattle.std.proofs.Common.{◌≡◌, ℕ, ◌≤◌, ◌<◌, ◌^◌, List, [], ◌++◌, length, take, refl, sym, ap, ap₂, ◌∙◌, subst, arith, append-nil, append_assoc}
+use Rattle.std.specs.String.{string_bytes}
 use Rattle.std.specs.Prelude.{IsTrue, Result, Ok, Err, None, OnOk, IfErr}
 use Rattle.std.proofs.lemmas.List.{take_all}
 use Rattle.std.proofs.lemmas.List.Elements.{All-nil}
@@ -17,17 +18,20 @@ use Rattle.loop_saver.specs.declared.ending.Ending.TheVariants.{Written}
 use Rattle.loop_saver.specs.SavedFiles.{files_for_all}
 use Rattle.loop_saver.specs.Savers.{SaverOf}
 use Rattle.loop_saver.specs.Accepting.{Writes}
-use Rattle.engine_steps.specs.Engines.{EngineOf, Beginning, first_looper, first_engine, went_on, put_out}
+use Rattle.engine_steps.specs.Engines.{EngineOf, Beginning, first_looper, first_engine, left}
 use Rattle.engine_steps.specs.InStep.{IsInStep, nothing}
 use Rattle.engine_steps.proofs.ReachedLemmas.{saves_counted}
 use Rattle.journal_run.specs.Clipping.{all_clipped}
-use Rattle.wav_pcm.specs.Inputs.{InputOf, span_of}
+use Rattle.wav_pcm.specs.Inputs.{InputOf}
 use Rattle.save_feeding.specs.Feeding.{StopsAt}
 use Rattle.whole_looper.specs.Loopers.{refused_in}
 use Rattle.journal_run.specs.RunTexts.{reply_lines, numbers_line, run_text}
 use Rattle.save_feeding.specs.declared.stopped.Stopped.{Stopped}
 use Rattle.save_feeding.specs.declared.stopped.Stopped.TheVariants.{Memory as NoMemory}
-use Rattle.journal_run.specs.Performing.{HasRoomFor, IsFirst, IsPlayable, HasCome, EndsRun, head_of, played_before, ran_over, saved_by}
+use Rattle.periods.specs.Periods.{PeriodOf, silent_period}
+use Rattle.journal_run.specs.declared.ending.Performed.{Performed}
+use Rattle.journal_run.specs.Runs.{RunOf, IsSpelledAs, Finishes}
+use Rattle.journal_run.specs.Performing.{HasRoomFor, IsFirst, IsPlayable, HasCome, HasTaken, EndsRun, Performs, head_of, played_before, ran_over, saved_by}
 use Rattle.journal_run.proofs.ClipLemmas.{run-clipped}
 use Rattle.journal_run.proofs.PlayLemmas.{come_frames}
 use Rattle.journal_run.proofs.TurnLemmas.{stop_now}
@@ -47,22 +51,23 @@ begins_in_step b =
     }
 
 -- a run before all entries and frames
-pub begin_come :
+begin_come :
     {P : Type 0} (k : Keeper P) (b : Beginning) (es : List Entry) (input : InputOf) (start : P)
-    (saver : SaverOf) (e : EngineOf) (out text : List ℕ) (replies : ℕ) →
-    e ≡ first_engine b → saver ≡ record { rate = b.settings.rate; saving = None } →
-    out ≡ head_of input → text ≡ [] → replies ≡ 0 →
-    HasCome k b es input start 0 0 start saver e out text replies
-begin_come k b es input start saver e out text replies is idle head none zero_is =
-    subst (λ f. HasCome k b es input start 0 0 start saver f out text replies) (sym is) (record {
+    (r : RunOf) → r.engine ≡ first_engine b →
+    r.saver ≡ record { rate = b.settings.rate; saving = None } → IsSpelledAs input r.period →
+    r.out ≡ head_of input → r.text ≡ [] → r.replies ≡ 0 → HasTaken k b es input start 0 start r
+begin_come k b es input start r is idle spelled head none zero_is =
+    let none_played : 0 ≡ played_before (length input.frames) es 0 = omega arith in
+    subst (λ n. HasCome k b es input start n 0 start r) none_played (record {
       so_far = nothing;
-      step = begins_in_step b;
+      step = subst (IsInStep b nothing) (sym is) (begins_in_step b);
       frames = refl;
-      entries = refl;
-      quota = refl;
-      none = refl;
+      entries = ap (λ (e : EngineOf). e.journal.entries) is;
+      quota = ap (λ (e : EngineOf). e.journal.quota) is;
+      none = ap left is;
       idle = ap (λ (s : SaverOf). s.saving) idle;
       rate = ap (λ (s : SaverOf). s.rate) idle;
+      spelled = spelled;
       heard = head ∙ sym (append-nil (head_of input));
       told = none;
       counted = zero_is;
@@ -77,17 +82,16 @@ all_taken xs = take_all (length xs) xs (omega arith)
 -- the run that has come to its end is the run
 ran_to_end :
     {P : Type 0} (k : Keeper P) (b : Beginning) (es : List Entry) (input : InputOf) (start : P)
-    (now : P) (saver : SaverOf) (e : EngineOf) (out text : List ℕ) (replies : ℕ) →
-    (come : HasCome k b es input start (length input.frames) (length es) now saver e out text
-    replies) →
+    (now : P) (r : RunOf) →
+    (come : HasCome k b es input start (length input.frames) (length es) now r) →
     ran_over es input (first_looper b) ≡ record {
       output = come.so_far.output;
       replies =
           come.so_far.replies;
       saves = come.so_far.saves;
-      looper = e.looper;
+      looper = r.engine.looper;
     }
-ran_to_end k b es input start now saver e out text replies come =
+ran_to_end k b es input start now r come =
     sym (run-clipped es input.frames (first_looper b))
     ∙ ap₂ (λ (fs : List Entry) (xs : List Sound). run fs xs (first_looper b))
     (ap (all_clipped (length input.frames)) (sym (all_taken es)) ∙ sym come.entries)
@@ -95,17 +99,17 @@ ran_to_end k b es input start now saver e out text replies come =
     ∙ come.step.ran
 
 -- OUT at the end
-pub out_at_end :
+out_at_end :
     {P : Type 0} (k : Keeper P) (b : Beginning) (es : List Entry) (input : InputOf) (start : P)
-    (now : P) (saver : SaverOf) (e : EngineOf) (out text whole : List ℕ) (replies : ℕ) →
-    HasCome k b es input start (length input.frames) (length es) now saver e out text replies →
-    whole ≡ out ++ padding (samples_size (length input.frames) input.channels input.bits) →
+    (now : P) (r : RunOf) (whole : List ℕ) →
+    HasCome k b es input start (length input.frames) (length es) now r →
+    whole ≡ r.out ++ padding (samples_size (length input.frames) input.channels input.bits) →
     whole ≡ wav_text (ran_over es input (first_looper b)).output input.channels input.bits
     input.rate
-out_at_end k b es input start now saver e out text whole replies come whole_is =
+out_at_end k b es input start now r whole come whole_is =
     let ran = ran_over es input (first_looper b) in
-    let same : come.so_far.output ≡ ran.output = ap (λ (r : Ran). r.output)
-    (sym (ran_to_end k b es input start now saver e out text replies come)) in
+    let same : come.so_far.output ≡ ran.output = ap (λ (n : Ran). n.output)
+    (sym (ran_to_end k b es input start now r come)) in
     let size : length input.frames ≡ length ran.output =
     sym (length-run_output es input.frames (first_looper b)) in
     let made : List ℕ = samples input.channels input.bits ran.output in
@@ -120,73 +124,60 @@ out_at_end k b es input start now saver e out text whole replies come whole_is =
     input.rate ++ (made ++ padding (samples_size n input.channels input.bits))) size
 
 -- the text at the end
-pub text_at_end :
+text_at_end :
     {P : Type 0} (k : Keeper P) (b : Beginning) (es : List Entry) (input : InputOf) (start : P)
-    (now : P) (saver : SaverOf) (e : EngineOf) (out text whole : List ℕ) (replies : ℕ) →
-    IsPlayable b es input →
-    HasCome k b es input start (length input.frames) (length es) now saver e out text replies →
-    whole ≡ text ++ numbers_line (length input.frames) (length es) replies e.looper.saves
-    (refused_in e.looper) →
+    (now : P) (r : RunOf) (whole : List ℕ) → IsPlayable b es input →
+    HasCome k b es input start (length input.frames) (length es) now r →
+    whole ≡ r.text ++ numbers_line (length input.frames) (length es) r.replies
+    r.engine.looper.saves (refused_in r.engine.looper) →
     whole ≡ run_text (length input.frames) (length es) (ran_over es input (first_looper b))
-text_at_end k b es input start now saver e out text whole replies playable come whole_is =
+text_at_end k b es input start now r whole playable come whole_is =
     let s = come.so_far in
-    let ran : Ran = record {
-      output = s.output;
-      replies = s.replies;
-      saves = s.saves;
-      looper =
-          e.looper;
-    } in
+    let l = r.engine.looper in
     whole_is
-    ∙ ap (λ (t : List ℕ). t ++ numbers_line (length input.frames) (length es) replies e.looper.saves
-    (refused_in e.looper)) come.told
+    ∙ ap (λ (t : List ℕ). t ++ numbers_line (length input.frames) (length es) r.replies l.saves
+    (refused_in l)) come.told
     ∙ ap₂ (λ (n m : ℕ). reply_lines s.replies ++ numbers_line (length input.frames) (length es) n m
-    (refused_in e.looper)) come.counted (saves_counted b s e playable.begins come.step)
+    (refused_in l)) come.counted (saves_counted b s r.engine playable.begins come.step)
     ∙ ap (run_text (length input.frames) (length es))
-    (sym (ran_to_end k b es input start now saver e out text replies come))
+    (sym (ran_to_end k b es input start now r come))
 
 -- the files at the end
-pub files_at_end :
+files_at_end :
     {P : Type 0} (k : Keeper P) (b : Beginning) (es : List Entry) (input : InputOf) (start : P)
-    (now : P) (saver : SaverOf) (e : EngineOf) (out text : List ℕ) (replies : ℕ) →
-    HasCome k b es input start (length input.frames) (length es) now saver e out text replies →
+    (now : P) (r : RunOf) → HasCome k b es input start (length input.frames) (length es) now r →
     Writes k (saved_by es input (first_looper b)) start now Written
-files_at_end k b es input start now saver e out text replies come =
+files_at_end k b es input start now r come =
     subst (λ (ss : List Save). Writes k (files_for_all b.settings.rate ss) start now Written)
-    (ap (λ (r : Ran). r.saves)
-    (sym (ran_to_end k b es input start now saver e out text replies come))) come.files
+    (ap (λ (n : Ran). n.saves) (sym (ran_to_end k b es input start now r come))) come.files
 
 -- the run plays what is behind the last entry, and ends, or it wants memory
 pub ends :
     {P : Type 0} (k : Keeper P) (b : Beginning) (es : List Entry) (input : InputOf) (start : P)
-    (now : P) (saver : SaverOf) (e last : EngineOf) (out text whole told : List ℕ)
-    (done replies : ℕ)
-    (r : Result Unit Stopped) → IsPlayable b es input → done ≡ played_before (length input.frames)
-    es (length es) → HasCome k b es input start done (length es) now saver e out text replies →
-    OnOk r (last ≡ went_on (span_of done (length input.frames - done) input.frames) e) →
-    OnOk r (whole ≡ (out
-    ++ samples input.channels input.bits
-    (put_out (span_of done (length input.frames - done) input.frames) e))
-    ++ padding (samples_size (length input.frames) input.channels input.bits)) →
-    OnOk r (told ≡ text ++ numbers_line (length input.frames) (length es) replies last.looper.saves
-    (refused_in last.looper)) →
-    IfErr r (λ why. why ≡ NoMemory) → EndsRun k es input (first_looper b) start now whole told r
-ends k b es input start now saver e last out text whole told done replies (Ok u) playable place come
-    played heard numbers memory =
-    let made = out ++ samples input.channels input.bits
-    (put_out (span_of done (length input.frames - done) input.frames) e) in
-    let within : done ≤ length input.frames = omega (arith, place) in
-    let all : length input.frames ≤ length input.frames = omega arith in
-    let on = come_frames k b es input start done (length input.frames) (length es) now saver e last
-    out made text replies within all come played refl in (
-      out_at_end k b es input start now saver last made text whole replies on heard,
-      text_at_end k b es input start now saver last made text told replies playable on numbers,
-      files_at_end k b es input start now saver last made text replies on,
+    (now : P) (r last : RunOf) (result : Result Unit Stopped) → IsPlayable b es input →
+    HasTaken k b es input start (length es) now r →
+    OnOk result (Finishes input (length es) r last) → IfErr result (λ why. why ≡ NoMemory) →
+    EndsRun k es input (first_looper b) start now last result
+ends k b es input start now r last (Ok u) playable come finishes memory =
+    let count = length input.frames in
+    let all : count ≤ count = omega arith in
+    let within : played_before count es (length es) ≤ count = omega arith in
+    let played = finishes.played in
+    let on = come_frames k b es input start (played_before count es (length es)) count (length es)
+    now r played within all come finishes.plays in
+    let text : last.text ≡ played.text ++ numbers_line count (length es) played.replies
+    played.engine.looper.saves (refused_in played.engine.looper) =
+    finishes.text
+    ∙ ap₂ (λ (t : List ℕ) (n : ℕ). t ++ numbers_line count (length es) n
+    played.engine.looper.saves (refused_in played.engine.looper)) (sym finishes.plays.text)
+    (sym finishes.plays.replies) in (
+      out_at_end k b es input start now played last.out on finishes.out,
+      text_at_end k b es input start now played last.text playable on text,
+      files_at_end k b es input start now played on,
     )
-ends k b es input start now saver e last out text whole told done replies (Err why) playable place
-    come played heard numbers memory =
+ends k b es input start now r last (Err why) playable come finishes memory =
     subst (λ (w : Stopped). StopsAt k (saved_by es input (first_looper b)) start now w) (sym memory)
-    (stop_now k b es input start done (length es) now saver e out text replies playable place come)
+    (stop_now k b es input start (length es) now r playable come)
 
 -- a run that begins can be played
 pub first_playable :
@@ -206,22 +197,43 @@ first_playable e first es input room stamped few short =
 -- and has come to its beginning
 pub first_come :
     {P : Type 0} (k : Keeper P) (e : EngineOf) (first : IsFirst e) (es : List Entry)
-    (input : InputOf) (start : P) (saver : SaverOf) (rate : ℕ) (out text : List ℕ) →
-    saver ≡ record { rate = rate; saving = None } → rate ≡ e.looper.rate → out ≡ head_of input →
-    text ≡ [] → HasCome k first.beginning es input start 0 0 start saver e out text 0
-first_come k e first es input start saver rate out text idle rate_is head none =
+    (input : InputOf) (start : P) (r : RunOf) (rate : ℕ) → r.engine ≡ e →
+    r.saver ≡ record { rate = rate; saving = None } → rate ≡ e.looper.rate →
+    IsSpelledAs input r.period → r.out ≡ head_of input → r.text ≡ [] → r.replies ≡ 0 →
+    HasTaken k first.beginning es input start 0 start r
+first_come k e first es input start r rate is idle rate_is spelled head none zero_is =
     let same : rate ≡ first.beginning.settings.rate =
     rate_is ∙ ap (λ (f : EngineOf). f.looper.rate) first.is in
-    let fresh : saver ≡ record { rate = first.beginning.settings.rate; saving = None } =
+    let fresh : r.saver ≡ record { rate = first.beginning.settings.rate; saving = None } =
     idle ∙ ap (λ n. let s : SaverOf = record { rate = n; saving = None } in s) same in
-    begin_come k first.beginning es input start saver e out text 0 first.is fresh head none refl
+    begin_come k first.beginning es input start r (is ∙ first.is) fresh spelled head none zero_is
 
 -- how it ends is told of its looper
 pub ends_first :
     {P : Type 0} (k : Keeper P) (e : EngineOf) (first : IsFirst e) (es : List Entry)
-    (input : InputOf) (start now : P) (out text : List ℕ) (r : Result Unit Stopped) →
-    EndsRun k es input (first_looper first.beginning) start now out text r →
-    EndsRun k es input e.looper start now out text r
-ends_first k e first es input start now out text r ended =
-    subst (λ (l : Looper). EndsRun k es input l start now out text r)
+    (input : InputOf) (start now : P) (r : RunOf) (result : Result Unit Stopped) →
+    EndsRun k es input (first_looper first.beginning) start now r result →
+    EndsRun k es input e.looper start now r result
+ends_first k e first es input start now r result ended =
+    subst (λ (l : Looper). EndsRun k es input l start now r result)
     (sym (ap (λ (f : EngineOf). f.looper) first.is)) ended
+
+-- a period that was made for an input is spelled as it
+pub silent_spelled : (input : InputOf) (p : PeriodOf) (channels bits most : ℕ) →
+    p ≡ silent_period channels bits most → channels ≡ input.channels → bits ≡ input.bits →
+    IsSpelledAs input p
+silent_spelled input p channels bits most is channels_is bits_is = record {
+  channels = ap (λ (q : PeriodOf). q.channels) is ∙ channels_is;
+  bits = ap (λ (q : PeriodOf). q.bits) is ∙ bits_is;
+}
+
+-- what a run that has ended gives
+pub performs :
+    {P : Type 0} (k : Keeper P) (es : List Entry) (input : InputOf) (l : Looper) (start now : P)
+    (r : RunOf) (p : Performed) (u : Unit {0}) → p.out.items ≡ r.out → string_bytes p.text ≡ r.text →
+    EndsRun k es input l start now r (Ok u) → Performs k es input l start now (Ok p)
+performs k es input l start now r p u out text ended = (
+  out ∙ ended.0,
+  text ∙ ended.1,
+  ended.2,
+)

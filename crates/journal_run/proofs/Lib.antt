@@ -1,4 +1,5 @@
 pub mod ClipLemmas
+pub mod SpanLemmas
 pub mod PlayLemmas
 pub mod TakeLemmas
 pub mod TurnLemmas

@@ -27,16 +27,16 @@ use Rattle.loop_saver.specs.Accepting.{Writes}
 use Rattle.loop_saver.proofs.AcceptLemmas.{writes_more, writes_failed, writes_wanted}
 use Rattle.engine_steps.specs.Engines.{EngineOf, Beginning, first_looper, entry_of, left, went_on, put_out}
 use Rattle.engine_steps.specs.InStep.{SoFar, IsInStep, with_taken, with_frames}
-use Rattle.engine_steps.proofs.StepLemmas.{went_on_in_step, went_on-append, put_out-append}
+use Rattle.engine_steps.proofs.StepLemmas.{went_on_in_step}
 use Rattle.journal_run.specs.Clipping.{clipped, all_clipped}
 use Rattle.wav_pcm.specs.Inputs.{InputOf, span_of}
-use Rattle.save_feeding.specs.Feeding.{SentOn, StopsAt}
+use Rattle.save_feeding.specs.Feeding.{StopsAt}
 use Rattle.journal_run.specs.Performing.{HasRoomFor, HasCome, head_of, played_before, ran_over}
 use Rattle.journal_run.specs.RunTexts.{reply_line, reply_lines}
+use Rattle.journal_run.specs.Runs.{RunOf, IsSpelledAs, PlaysTo, Takes, frames_to}
 use Rattle.save_feeding.specs.declared.stopped.Stopped.{Stopped}
 use Rattle.save_feeding.specs.declared.stopped.Stopped.TheVariants.{Writing, Memory as NoMemory}
 use Rattle.journal_run.proofs.ClipLemmas.{run-clipped}
-use Rattle.wav_pcm.proofs.InputLemmas.{span_more}
 
 -- more replies are more lines
 reply_lines-append : (rs more : List Reply) →
@@ -55,58 +55,55 @@ files_for_all-append rate (s ∷ ss) more =
     ∙ sym
     (append_assoc (files_of_save rate s) (files_for_all rate ss) (files_for_all rate more))
 
--- a span and the one behind it are one
-spans_join : (from done count : ℕ) (frames : List Sound) → from ≤ done →
-    span_of from (done + count - from) frames
-    ≡ span_of from (done - from) frames ++ span_of done count frames
-spans_join from done count frames order =
-    ap (λ n. span_of from n frames) (let all : done + count - from ≡ done - from + count =
-    omega arith in all)
-    ∙ span_more from (done - from) count frames
-    ∙ ap (λ n. span_of from (done - from) frames ++ span_of n count frames)
-    (let here : from + (done - from) ≡ done = omega arith in here)
+-- how many frames the engine has played
+pub frames_played :
+    {P : Type 0} (k : Keeper P) (b : Beginning) (es : List Entry) (input : InputOf) (start : P)
+    (done taken : ℕ) (now : P) (r : RunOf) → done ≤ length input.frames →
+    HasCome k b es input start done taken now r → r.engine.frames ≡ done
+frames_played k b es input start done taken now r within come =
+    come.step.frames ∙ ap length come.frames ∙ length-take-le done input.frames within
 
 -- the run comes on by frames
 pub come_frames :
     {P : Type 0} (k : Keeper P) (b : Beginning) (es : List Entry) (input : InputOf) (start : P)
-    (done until taken : ℕ) (now : P) (saver : SaverOf) (e next : EngineOf)
-    (out longer text : List ℕ) (replies : ℕ) →
-    done ≤ until → until ≤ length input.frames →
-    HasCome k b es input start done taken now saver e out text replies →
-    next ≡ went_on (span_of done (until - done) input.frames) e →
-    longer
-    ≡ out ++ samples input.channels input.bits
-    (put_out (span_of done (until - done) input.frames) e) →
-    HasCome k b es input start until taken now saver next longer text replies
-come_frames k b es input start done until taken now saver e next out longer text replies order
-    within come next_is longer_is =
-    let xs = span_of done (until - done) input.frames in
+    (done until taken : ℕ) (now : P) (r next : RunOf) → done ≤ until →
+    until ≤ length input.frames → HasCome k b es input start done taken now r →
+    PlaysTo input until r next → HasCome k b es input start until taken now next
+come_frames k b es input start done until taken now r next order within come plays =
+    let here = frames_played k b es input start done taken now r (omega arith) come in
+    let e = r.engine in
     let s = come.so_far in
-    subst (λ n. HasCome k b es input start until taken now saver n longer text replies)
-    (sym next_is) (record {
+    let xs = span_of done (until - done) input.frames in
+    let same : frames_to input until r ≡ xs = ap (λ n. span_of n (until - n) input.frames) here in
+    let played : next.engine ≡ went_on xs e =
+    plays.engine ∙ ap (λ (ys : List Sound). went_on ys e) same in
+    record {
       so_far = with_frames xs (put_out xs e) s;
-      step = went_on_in_step b s xs e come.step;
+      step = subst (IsInStep b (with_frames xs (put_out xs e) s)) (sym played)
+          (went_on_in_step b s xs e come.step);
       frames = ap (λ (ys : List Sound). ys ++ xs) come.frames
           ∙ sym (take-add done (until - done) input.frames)
           ∙ ap (λ n. take n input.frames) (let all : done + (until - done) ≡ until = omega arith
           in all);
-      entries = come.entries;
-      quota = come.quota;
-      none = come.none;
-      idle = come.idle;
-      rate = come.rate;
-      heard = longer_is
-          ∙ ap (λ (o : List ℕ). o ++ samples input.channels input.bits (put_out xs e)) come.heard
+      entries = ap (λ (f : EngineOf). f.journal.entries) played ∙ come.entries;
+      quota = ap (λ (f : EngineOf). f.journal.quota) played ∙ come.quota;
+      none = ap left played ∙ come.none;
+      idle = ap (λ (f : SaverOf). f.saving) plays.saver ∙ come.idle;
+      rate = ap (λ (f : SaverOf). f.rate) plays.saver ∙ come.rate;
+      spelled = plays.spelled;
+      heard = plays.out
+          ∙ ap₂ (λ (o : List ℕ) (ys : List Sound). o
+          ++ samples input.channels input.bits (put_out ys e)) come.heard same
           ∙ append_assoc (head_of input) (samples input.channels input.bits s.output)
           (samples input.channels input.bits (put_out xs e))
           ∙ ap (λ (o : List ℕ). head_of input ++ o)
           (sym
           (flat_map-append (frame_bytes input.channels input.bits) s.output (put_out xs e)));
-      told = come.told;
-      counted = come.counted;
-      few = come.few;
+      told = plays.text ∙ come.told;
+      counted = plays.replies ∙ come.counted;
+      few = (let before = come.few in let told = plays.replies in omega (arith, before, told));
       files = come.files;
-    })
+    }
 
 -- the entry of an index, and those before and behind it
 parted : (es : List Entry) (index : ℕ) (x : Entry) → index < length es → x ≡ get_or es index x →
@@ -201,16 +198,6 @@ stamped_entries es count index x e stamped inside is entries frames =
     ∙ sym (map-append (clipped count) (take index es) (x ∷ []))
     ∙ ap (all_clipped count) (sym (take-push es index x inside is))
 
--- how many frames the engine has played
-pub frames_played :
-    {P : Type 0} (k : Keeper P) (b : Beginning) (es : List Entry) (input : InputOf) (start : P)
-    (done taken : ℕ) (now : P) (saver : SaverOf) (e : EngineOf) (out text : List ℕ)
-    (replies : ℕ) →
-    done ≤ length input.frames →
-    HasCome k b es input start done taken now saver e out text replies → e.frames ≡ done
-frames_played k b es input start done taken now saver e out text replies within come =
-    come.step.frames ∙ ap length come.frames ∙ length-take-le done input.frames within
-
 -- its sender has room
 pub has_room_at :
     (es : List Entry) (count quota index : ℕ) (x : Entry) (e : EngineOf) → HasRoomFor quota es →
@@ -241,52 +228,44 @@ at_most_one (Some x) = omega arith
 -- the run comes on by an entry
 pub come_entry :
     {P : Type 0} (k : Keeper P) (b : Beginning) (es : List Entry) (input : InputOf) (start : P)
-    (done taken : ℕ) (x : Entry) (now later : P) (saver after : SaverOf) (e next : EngineOf)
-    (out text longer : List ℕ) (replies more : ℕ) → IsTrue (are_stamped es) → taken < length es →
-    x ≡ get_or es taken x → done ≡ min x.frame (length input.frames) →
-    done ≤ length input.frames →
-    HasCome k b es input start done taken now saver e out text replies → after.rate ≡ saver.rate →
-    after.saving ≡ None → left next ≡ [] →
-    longer ≡ text ++ reply_lines (option_to_list (reply (entry_of x.sender x.command e) e.looper)) →
-    more ≡ replies + length (option_to_list (reply (entry_of x.sender x.command e) e.looper)) →
+    (done taken : ℕ) (x : Entry) (now later : P) (r next : RunOf) → IsTrue (are_stamped es) →
+    taken < length es → x ≡ get_or es taken x → done ≡ min x.frame (length input.frames) →
+    HasCome k b es input start done taken now r →
+    Takes (entry_of x.sender x.command r.engine) r next →
     Writes k
-    (files_for_all saver.rate (option_to_list (save (entry_of x.sender x.command e) e.looper)))
-    now later Written →
-    ((s : SoFar) → IsInStep b s e →
-    SentOn b
-    (with_taken (reply (entry_of x.sender x.command e) e.looper)
-    (save (entry_of x.sender x.command e) e.looper) s) next) →
-    next.journal
-    ≡ record e.journal { entries = e.journal.entries ++ entry_of x.sender x.command e ∷ [] } →
-    HasCome k b es input start done (taken + 1) later after next out longer more
-come_entry k b es input start done taken x now later saver after e next out text longer replies more
-    stamped inside is place within come rate idle none told counted files sent journal =
+    (files_for_all r.saver.rate
+    (option_to_list (save (entry_of x.sender x.command r.engine) r.engine.looper))) now later
+    Written → HasCome k b es input start done (taken + 1) later next
+come_entry k b es input start done taken x now later r next stamped inside is place come takes files
+    =
+    let e = r.engine in
     let s = come.so_far in
     let en = entry_of x.sender x.command e in
     let made = option_to_list (save en e.looper) in
     let answer = option_to_list (reply en e.looper) in
     let count = length input.frames in
-    let on = sent s come.step in
+    let on = takes.step b s come.step in
     let played =
-    frames_played k b es input start done taken now saver e out text replies within come in
+    frames_played k b es input start done taken now r (omega (arith, place)) come in
     record {
       so_far = record (with_taken (reply en e.looper) (save en e.looper) s) { sent = on.sent };
       step = on.step;
       frames = come.frames;
-      entries = ap (λ (j : JournalOf). j.entries) journal
+      entries = ap (λ (j : JournalOf). j.entries) takes.journal
           ∙ stamped_entries es count taken x e stamped inside is come.entries (played ∙ place);
-      quota = ap (λ (j : JournalOf). j.quota) journal ∙ come.quota;
-      none = none;
-      idle = idle;
-      rate = rate ∙ come.rate;
-      heard = come.heard;
-      told = told ∙ ap (λ (t : List ℕ). t ++ reply_lines answer) come.told
+      quota = ap (λ (j : JournalOf). j.quota) takes.journal ∙ come.quota;
+      none = takes.none;
+      idle = takes.idle;
+      rate = takes.rate ∙ come.rate;
+      spelled = subst (IsSpelledAs input) (sym takes.period) come.spelled;
+      heard = takes.out ∙ come.heard;
+      told = takes.text ∙ ap (λ (t : List ℕ). t ++ reply_lines answer) come.told
           ∙ sym (reply_lines-append s.replies answer);
-      counted = counted ∙ ap (λ n. n + length answer) come.counted
+      counted = takes.replies ∙ ap (λ n. n + length answer) come.counted
           ∙ sym (length-append s.replies answer);
       few =
-          (let before = come.few in let one = at_most_one (reply en e.looper)
-          in omega (arith, counted));
+          (let before = come.few in let one = at_most_one (reply en e.looper) in
+          let counted = takes.replies in omega (arith, before, one, counted));
       files =
           subst (λ fs. Writes k fs start later Written)
           (sym (files_for_all-append b.settings.rate s.saves made))
@@ -359,38 +338,3 @@ stops_in k fs gs start now later Writing first stops =
     writes_more k fs gs start now later Failed first stops
 stops_in k fs gs start now later NoMemory first stops =
     writes_more k fs gs start now later Memory first stops
-
--- spans one behind the other
-pub spans_more :
-    (from done count : ℕ) (n : ℕ) (frames : List Sound) (e0 e1 e2 : EngineOf) → n ≡ count →
-    from ≤ done → e1 ≡ went_on (span_of from (done - from) frames) e0 →
-    e2 ≡ went_on (span_of done n frames) e1 →
-    e2 ≡ went_on (span_of from (done + count - from) frames) e0
-spans_more from done count n frames e0 e1 e2 same order first second =
-    second
-    ∙ ap₂ (λ (m : ℕ) (e : EngineOf). went_on (span_of done m frames) e) same first
-    ∙ sym (went_on-append (span_of from (done - from) frames) (span_of done count frames) e0)
-    ∙ ap (λ (xs : List Sound). went_on xs e0) (sym (spans_join from done count frames order))
-
-pub heard_more :
-    (from done count : ℕ) (n channels bits : ℕ) (frames : List Sound) (e0 e1 : EngineOf)
-    (out0 out1 out2 : List ℕ) → n ≡ count → from ≤ done →
-    e1 ≡ went_on (span_of from (done - from) frames) e0 →
-    out1 ≡ out0 ++ samples channels bits (put_out (span_of from (done - from) frames) e0) →
-    out2 ≡ out1 ++ samples channels bits (put_out (span_of done n frames) e1) →
-    out2 ≡ out0 ++ samples channels bits (put_out (span_of from (done + count - from) frames) e0)
-heard_more from done count n channels bits frames e0 e1 out0 out1 out2 same order engine first
-    second =
-    let xs = span_of from (done - from) frames in
-    let ys = span_of done count frames in
-    second
-    ∙ ap₂
-    (λ (m : ℕ) (e : EngineOf).
-    out1 ++ samples channels bits (put_out (span_of done m frames) e)) same engine
-    ∙ ap (λ (o : List ℕ). o ++ samples channels bits (put_out ys (went_on xs e0))) first
-    ∙ append_assoc out0 (samples channels bits (put_out xs e0))
-    (samples channels bits (put_out ys (went_on xs e0)))
-    ∙ ap (λ (o : List ℕ). out0 ++ o)
-    (sym (flat_map-append (frame_bytes channels bits) (put_out xs e0) (put_out ys (went_on xs e0)))
-    ∙ ap (samples channels bits) (sym (put_out-append xs ys e0)
-    ∙ ap (λ (zs : List Sound). put_out zs e0) (sym (spans_join from done count frames order))))

@@ -1,5 +1,6 @@
 pub mod Clipping
 pub mod RunTexts
+pub mod Runs
 pub mod Performing
 pub mod Quotas
 pub mod Playing

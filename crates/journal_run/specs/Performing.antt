@@ -15,7 +15,6 @@ use Rattle.looper_rules.specs.Reached.{IsBeginning}
 use Rattle.frame_stamp.specs.Journals.{room_of}
 use Rattle.loop_saver.specs.declared.ending.Ending.TheVariants.{Written}
 use Rattle.loop_saver.specs.SavedFiles.{SavedFile, files_for_all}
-use Rattle.loop_saver.specs.Savers.{SaverOf}
 use Rattle.loop_saver.specs.Accepting.{Writes}
 use Rattle.engine_steps.specs.Engines.{EngineOf, Beginning, first_engine, first_looper, left}
 use Rattle.engine_steps.specs.InStep.{SoFar, IsInStep}
@@ -23,6 +22,7 @@ use Rattle.journal_run.specs.Clipping.{all_clipped}
 use Rattle.save_feeding.specs.Feeding.{StopsAt}
 use Rattle.wav_pcm.specs.Inputs.{InputOf}
 use Rattle.journal_run.specs.RunTexts.{reply_lines, run_text}
+use Rattle.journal_run.specs.Runs.{RunOf, IsSpelledAs}
 use Rattle.journal_run.specs.declared.ending.Performed.{Performed}
 use Rattle.std.specs.String.{string_bytes}
 use Rattle.save_feeding.specs.declared.stopped.Stopped.{Stopped}
@@ -53,20 +53,20 @@ head_of input =
 
 -- what the run gave so far: so many frames were played, and so many entries taken
 pub record HasCome {P : Type 0} (k : Keeper P) (b : Beginning) (es : List Entry) (input : InputOf)
-    (start : P) (done taken : ℕ) (now : P) (saver : SaverOf) (e : EngineOf) (out text : List ℕ)
-    (replies : ℕ) : Type 0 where
+    (start : P) (done taken : ℕ) (now : P) (r : RunOf) : Type 0 where
   pub so_far : SoFar
-  pub step : IsInStep b so_far e
+  pub step : IsInStep b so_far r.engine
   pub frames : so_far.input ≡ take done input.frames
-  pub entries : e.journal.entries ≡ all_clipped (length input.frames) (take taken es)
-  pub quota : e.journal.quota ≡ b.quota
-  pub none : left e ≡ []
-  pub idle : saver.saving ≡ None
-  pub rate : saver.rate ≡ b.settings.rate
-  pub heard : out ≡ head_of input ++ samples input.channels input.bits so_far.output
-  pub told : text ≡ reply_lines so_far.replies
-  pub counted : replies ≡ length so_far.replies
-  pub few : replies ≤ taken
+  pub entries : r.engine.journal.entries ≡ all_clipped (length input.frames) (take taken es)
+  pub quota : r.engine.journal.quota ≡ b.quota
+  pub none : left r.engine ≡ []
+  pub idle : r.saver.saving ≡ None
+  pub rate : r.saver.rate ≡ b.settings.rate
+  pub spelled : IsSpelledAs input r.period
+  pub heard : r.out ≡ head_of input ++ samples input.channels input.bits so_far.output
+  pub told : r.text ≡ reply_lines so_far.replies
+  pub counted : r.replies ≡ length so_far.replies
+  pub few : r.replies ≤ taken
   pub files : Writes k (files_for_all b.settings.rate so_far.saves) start now Written
 
 -- the entries of a journal, and a beginning with room for them
@@ -77,42 +77,42 @@ pub record IsPlayable (b : Beginning) (es : List Entry) (input : InputOf) : Type
   pub few : length es < 2 ^ 63
   pub short : length input.frames ≤ max_file_frames
 
--- the run is on its way
-pub record IsComing {P : Type 0} (k : Keeper P) (es : List Entry) (input : InputOf) (done taken : ℕ)
-    (now : P) (saver : SaverOf) (e : EngineOf) (out text : List ℕ) (replies : ℕ) : Type 0 where
-  pub beginning : Beginning
-  pub playable : IsPlayable beginning es input
-  pub start : P
-  pub come : HasCome k beginning es input start done taken now saver e out text replies
-
--- the frame before which an entry is taken, where so many frames are played already
-abbrev pub place_of : ℕ → ℕ → ℕ
-place_of count frame = min frame count
-
 -- how many frames are played where so many entries are taken
 abbrev pub played_before : ℕ → List Entry → ℕ → ℕ
 played_before count es taken = min (last_frame (take taken es)) count
 
+-- the run has come to the place of the last of so many entries, and has taken these
+abbrev pub HasTaken : {P : Type 0} → Keeper P → Beginning → List Entry → InputOf → P → ℕ → P →
+    RunOf → Type 0
+HasTaken k b es input start taken now r =
+    HasCome k b es input start (played_before (length input.frames) es taken) taken now r
+
+-- the run is on its way
+pub record IsComing {P : Type 0} (k : Keeper P) (es : List Entry) (input : InputOf) (taken : ℕ)
+    (now : P) (r : RunOf) : Type 0 where
+  pub beginning : Beginning
+  pub playable : IsPlayable beginning es input
+  pub start : P
+  pub come : HasTaken k beginning es input start taken now r
+
 -- what one entry more leaves: the run has come further, or it stops with the first files of its
 -- saves
 abbrev pub ComesOrStops : {P : Type 0} → Keeper P → Beginning → List Entry → InputOf → P → ℕ → P →
-    SaverOf → EngineOf → List ℕ → List ℕ → ℕ → Result ℕ Stopped → Type 0
-ComesOrStops k b es input start taken now saver e out text replies (Ok done) =
-    HasCome k b es input start done taken now saver e out text replies
-    × (done ≡ played_before (length input.frames) es taken)
-ComesOrStops k b es input start taken now saver e out text replies (Err why) =
+    RunOf → Result Unit Stopped → Type 0
+ComesOrStops k b es input start taken now r (Ok _) = HasTaken k b es input start taken now r
+ComesOrStops k b es input start taken now r (Err why) =
     StopsAt k (files_for_all b.settings.rate (ran_over es input (first_looper b)).saves) start now
     why
 
 -- how a run over this looper ends, by its answer: OUT and the text are the run's and all files of
 -- its saves are written, or the first of them are
-abbrev pub EndsRun : {P : Type 0} → Keeper P → List Entry → InputOf → Looper → P → P → List ℕ →
-    List ℕ → Result Unit Stopped → Type 0
-EndsRun k es input l start now out text (Ok _) =
-    (out ≡ wav_text (ran_over es input l).output input.channels input.bits input.rate)
-    × (text ≡ run_text (length input.frames) (length es) (ran_over es input l))
+abbrev pub EndsRun : {P : Type 0} → Keeper P → List Entry → InputOf → Looper → P → P → RunOf →
+    Result Unit Stopped → Type 0
+EndsRun k es input l start now r (Ok _) =
+    (r.out ≡ wav_text (ran_over es input l).output input.channels input.bits input.rate)
+    × (r.text ≡ run_text (length input.frames) (length es) (ran_over es input l))
     × Writes k (saved_by es input l) start now Written
-EndsRun k es input l start now out text (Err why) = StopsAt k (saved_by es input l) start now why
+EndsRun k es input l start now r (Err why) = StopsAt k (saved_by es input l) start now why
 
 -- the same of what the run gives
 abbrev pub Performs : {P : Type 0} → Keeper P → List Entry → InputOf → Looper → P → P →

@@ -1,25 +1,23 @@
 //! A whole run: the header of OUT, the entries, the frames behind them, and the numbers.
 
-ghost use Rattle.std.specs.Prelude.{◌≡◌, ◌≤◌, ◌<◌, ◌-◌, ◌^◌, ◌++◌, ℕ, length, IfOk, IfErr, OnOk, IsTrue};
-ghost use Rattle.std.specs.String.{string_bytes};
+ghost use Rattle.std.specs.Prelude.{◌≡◌, ◌≤◌, ◌<◌, ◌^◌, ◌++◌, length, IfOk, IfErr, OnOk, IsTrue};
 ghost use Rattle.sl_base.specs.Limits.{max_file_frames, max_period};
 ghost use Rattle.sl_commands.specs.Entries.{are_stamped};
 ghost use Rattle.sl_commands.specs.Settings.{is_rate};
-ghost use Rattle.wav_pcm.specs.WavText.{samples, samples_size, padding};
-ghost use Rattle.engine_steps.specs.Engines.{Beginning, first_looper, went_on, put_out};
-ghost use Rattle.journal_run.specs.Performing.{head_of, HasRoomFor, IsFirst, IsPlayable, HasCome, IsComing, EndsRun, Performs};
-ghost use Rattle.wav_pcm.specs.Inputs.{span_of};
-ghost use Rattle.whole_looper.specs.Loopers.{refused_in};
-ghost use Rattle.journal_run.specs.RunTexts.{numbers_line};
+ghost use Rattle.wav_pcm.specs.WavText.{samples_size, padding};
+ghost use Rattle.engine_steps.specs.Engines.{Beginning, first_looper};
+ghost use Rattle.journal_run.specs.Runs.{IsSpelledAs, Finishes};
+ghost use Rattle.journal_run.specs.Performing.{head_of, HasRoomFor, IsFirst, IsPlayable, HasTaken, IsComing, EndsRun, Performs};
 ghost use Rattle.save_feeding.specs.declared.stopped.Stopped.TheVariants.{Memory as NoMemory};
 
-use crate::entries::{Run, turns};
+use crate::entries::turns;
 use crate::playing::play_to;
+use crate::run::Run;
 use crate::texts::write_numbers;
 use loop_saver::Saver;
 use looper_engine::Engine;
+use periods::Period;
 use save_feeding::Stopped;
-use sl_base::Frame;
 use sl_commands::Entry;
 use sl_ports::Keeper;
 use std::alloc::Global;
@@ -73,45 +71,15 @@ fn end_out(out: &mut Vec<u8>, size: usize) -> Result<(), Stopped>
     Ok(())
 }
 
-/// Plays the frames behind the last entry, and puts the pad and the numbers at the end.
-fn finish(
-    run: &mut Run,
-    input: &Input,
-    entries: usize,
-    done: usize,
-    frames: &mut [Frame],
-    heard: &mut [Frame],
-    bytes: &mut [u8],
-) -> Result<(), Stopped>
-    requires some { 1 ≤ length frames.old }
-    requires heard { length heard.old ≡ length frames.old }
-    requires bytes { length bytes.old ≡ samples_size (length frames.old) input.now.channels
-        input.now.bits }
-    requires done { run.old.engine.frames ≡ done }
-    requires within { done ≤ length input.now.frames }
+/// Plays the frames behind the last entry of so many, and puts the pad and the numbers at the end.
+fn finish(run: &mut Run, input: &Input, entries: usize) -> Result<(), Stopped>
+    requires spelled { IsSpelledAs input.now run.old.period }
+    requires within { run.old.engine.frames ≤ length input.now.frames }
     requires short { length input.now.frames ≤ max_file_frames }
-    ensures engine { OnOk result
-        (run.new.engine ≡ went_on (span_of done (length input.now.frames - done) input.now.frames)
-        run.old.engine) }
-    ensures out { OnOk result
-        (run.new.out.items ≡ (run.old.out.items ++ samples input.now.channels input.now.bits
-        (put_out (span_of done (length input.now.frames - done) input.now.frames) run.old.engine))
-        ++ padding (samples_size (length input.now.frames) input.now.channels input.now.bits)) }
-    ensures text { OnOk result (string_bytes run.new.text ≡ string_bytes run.old.text
-        ++ numbers_line (length input.now.frames) entries run.old.replies
-        run.new.engine.looper.saves (refused_in run.new.engine.looper)) }
+    ensures ok { OnOk result (Finishes input.now entries run.old run.new) }
     ensures memory { IfErr result (λ why. why ≡ NoMemory) }
 {
-    play_to(
-        &mut run.engine,
-        &mut run.out,
-        input,
-        done,
-        input.len(),
-        frames,
-        heard,
-        bytes,
-    )?;
+    play_to(run, input, input.len())?;
     end_out(&mut run.out, size_of(input))?;
     write_numbers(
         &mut run.text,
@@ -131,27 +99,15 @@ fn run_all<P: Keeper>(
     run: &mut Run,
     input: &Input,
     entries: &[Entry],
-    frames: &mut [Frame],
-    heard: &mut [Frame],
-    bytes: &mut [u8],
 ) -> Result<(), Stopped>
-    requires some { 1 ≤ length frames.old }
-    requires heard { length heard.old ≡ length frames.old }
-    requires bytes { length bytes.old ≡ samples_size (length frames.old) input.now.channels
-        input.now.bits }
-    requires coming { IsComing P.Keeper entries.now input.now 0 0
-        keeper.old run.old.saver run.old.engine run.old.out.items (string_bytes run.old.text)
-        run.old.replies }
+    requires coming { IsComing P.Keeper entries.now input.now 0 keeper.old run.old }
     ensures reads { P.read_faults keeper.new ≡ P.read_faults keeper.old }
     ensures come { (b : Beginning) → (start : P) → IsPlayable b entries.now input.now →
-        HasCome P.Keeper b entries.now input.now start 0 0
-        keeper.old run.old.saver run.old.engine run.old.out.items (string_bytes run.old.text)
-        run.old.replies →
-        EndsRun P.Keeper entries.now input.now (first_looper b) start keeper.new run.new.out.items
-        (string_bytes run.new.text) result }
+        HasTaken P.Keeper b entries.now input.now start 0 keeper.old run.old →
+        EndsRun P.Keeper entries.now input.now (first_looper b) start keeper.new run.new result }
 {
-    let done = turns(alloc, keeper, run, input, entries, frames, heard, bytes)?;
-    finish(run, input, entries.len(), done, frames, heard, bytes)
+    turns(alloc, keeper, run, input, entries)?;
+    finish(run, input, entries.len())
 }
 
 /// Plays the entries over the input by an engine before all frames and entries, at most `period`
@@ -180,29 +136,17 @@ pub fn perform<P: Keeper>(
         result }
 {
     let out = begin_out(alloc, input)?;
-    let size = period as usize * (input.channels() as usize * (input.bits() as usize / 8));
-    let mut frames = vec![in alloc; Frame::silence(); period as usize]?;
-    let mut heard = vec![in alloc; Frame::silence(); period as usize]?;
-    let mut bytes = vec![in alloc; 0u8; size]?;
+    let saver = Saver::new(rate);
+    let buffers = Period::new(alloc, input.channels(), input.bits(), period)?;
+    let text = String::new(alloc);
     let mut run = Run {
         engine,
-        saver: Saver::new(rate),
+        saver,
+        period: buffers,
         out,
-        text: String::new(alloc),
+        text,
         replies: 0,
     };
-    run_all(
-        alloc,
-        keeper,
-        &mut run,
-        input,
-        entries,
-        &mut frames,
-        &mut heard,
-        &mut bytes,
-    )?;
-    Ok(Performed {
-        out: run.out,
-        text: run.text,
-    })
+    run_all(alloc, keeper, &mut run, input, entries)?;
+    Ok(run.into_performed())
 }

@@ -9,9 +9,9 @@
 //! - An `Input` is a WAV file whose frames are read a span after another. OUT's samples are made so
 //!   too. So a run holds IN's bytes, OUT's bytes, a period of frames, and the engine.
 //!
-//! Begin with `starting`, then `ending` and `entries`; `playing` plays frames, `texts`
-//! writes lines. The rules are "The run" and "Saves" in docs/rules.md, and "Files of a save" and
-//! "The console" in docs/formats.md.
+//! Begin with `starting`, then `ending` and `entries`; `run` has what goes on in a run, `playing`
+//! plays frames, `texts` writes lines. The rules are "The run" and "Saves" in docs/rules.md, and
+//! "Files of a save" and "The console" in docs/formats.md.
 #![tactic(auto)]
 
 mod ending;
@@ -19,6 +19,7 @@ mod entries;
 mod laws;
 mod playing;
 mod quota;
+mod run;
 mod starting;
 #[cfg(test)]
 mod tests;

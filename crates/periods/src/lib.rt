@@ -2,9 +2,12 @@
 //! spell them.
 //!
 //! - A `Period` is made once, for so many frames in 1 or 2 channels of 16 or 24 bits. Only that
-//!   takes memory.
-//! - Contracts see its form and how many frames it has at most: what stands in the buffers between
-//!   two periods means nothing.
+//!   takes memory for them.
+//! - `read` takes in a span of an input, and `write` puts the samples of what is heard behind a
+//!   list of bytes. Both use the front of the buffers where a period is shorter. What plays the
+//!   frames borrows `frames` and `heard`.
+//! - Contracts see its form, the frames taken in and the frames heard; what stands in `bytes`
+//!   between two periods means nothing.
 //! - The buffers stay as long as each other: `frames` and `heard` have a place for each frame, and
 //!   `bytes` for all of their samples.
 //!
