@@ -1,6 +1,6 @@
 -- What taking an entry leaves.
 use Rattle.std.proofs.Common.{◌≡◌, ℕ, List, [], ◌∷◌, ◌++◌, length, drop, refl, sym, ap, ap₂, ◌∙◌, subst, arith, append-nil, length-append}
-use Rattle.std.specs.Prelude.{Option, Some, None, Result, Ok, Err, OnOk, option_to_list}
+use Rattle.std.specs.Prelude.{Option, Some, None, option_to_list}
 use Rattle.std.proofs.lemmas.List.{length-drop}
 use Rattle.sl_commands.specs.declared.Entry.{Entry}
 use Rattle.looper_rules.specs.Saves.{Save}
@@ -54,16 +54,6 @@ taken_in_step b s en e next is now number clears h =
     subst (IsInStep b (with_taken (reply en e.looper) (save en e.looper) s)) (sym is)
     (took_in_step b s en e now number clears h)
 
-pub taken_somehow : (en : Entry) (e next : EngineOf) → next ≡ took en e → en.frame ≡ e.frames →
-    en.seq ≡ next_seq en.sender e.journal.entries → left e ≡ [] → IsSomehowInStep e →
-    IsSomehowInStep next
-taken_somehow en e next is now number none step = record {
-  beginning = step.beginning;
-  so_far = with_taken (reply en e.looper) (save en e.looper) step.so_far;
-  step = taken_in_step step.beginning step.so_far en e next is now number
-      (may_take en e step none) step.step;
-}
-
 -- the blocks of one save, if any, may come, and make its files due
 made_ends : (o : Option Save) → ((s : Save) → o ≡ Some s → IsMade s) →
     MayEnd None (blocks_for_all (option_to_list o))
@@ -95,8 +85,3 @@ pub taken_due :
     due_for_all rate None (left next) ≡ files_for_all rate (option_to_list (save en e.looper))
 taken_due en e next rate is step none = ap (due_for_all rate None)
     (taken_left en e next is step none) ∙ made_due rate (save en e.looper)
-
--- what holds at any answer
-pub on_any : {A E : Type 0} (r : Result A E) (X : Type 0) → X → OnOk r X
-on_any (Ok a) X x = x
-on_any (Err e) X x = tt
