@@ -1,5 +1,5 @@
 -- What audio did, one turn behind another.
-use Rattle.std.proofs.Common.{◌≡◌, ◌⊎◌, inl, inr, ℕ, ◌+◌, ◌*◌, ◌≤◌, List, [], ◌++◌, length, Bool, true, false, Option, Some, None, refl, sym, ap, ◌∙◌, subst, arith, append_assoc, length-append}
+use Rattle.std.proofs.Common.{◌≡◌, ◌⊎◌, inl, inr, ℕ, ◌+◌, ◌*◌, ◌≤◌, List, [], ◌++◌, length, Bool, true, false, ◌||◌, Option, Some, None, refl, sym, ap, ◌∙◌, subst, arith, append_assoc, length-append}
 use Rattle.std.specs.Io.KnownBytes.{Appends}
 use Rattle.sl_base.specs.Sounds.{Sound}
 use Rattle.sl_base.specs.Counting.{Rose, Counts}
@@ -20,11 +20,11 @@ use Rattle.audio_ends.specs.declared.rings.RingEnds.{RingEnds}
 use Rattle.live_ports.specs.Sources.{SourceSeen, Consumes}
 use Rattle.audio_ends.specs.declared.fill.Halt.{Halt}
 use Rattle.audio_ends.specs.declared.fill.Halt.TheVariants.{Whole, Idle, End, Failed}
-use Rattle.audio_ends.specs.Fills.{ReadsFrames, HaltCause, Halts}
+use Rattle.audio_ends.specs.Fills.{ReadsFrames, HaltCause, is_at_end, Halts}
 use Rattle.audio_ends.specs.Ends.{passed, has_quit, HasLimits, MayTurn}
-use Rattle.audio_ends.specs.Did.{AudioAt, IsReady, MayGoOn, AudioDid, HasNotFailed}
+use Rattle.audio_ends.specs.Did.{AudioAt, IsReady, MayGoOn, AudioDid, HasMore}
 use Rattle.audio_ends.proofs.TurnLemmas.{on_then}
-use Rattle.audio_ends.proofs.FillLemmas.{consumes_then}
+use Rattle.audio_ends.proofs.FillLemmas.{consumes_then, or-false}
 
 -- frames that were read behind others
 reads_then : (channels : ℕ) (left mid rest : Option (List ℕ)) (kept between last : List ℕ)
@@ -69,20 +69,28 @@ reads_then channels left mid rest kept between last xs ys format r q =
     both_are us vs p q = λ i. p i ++ q i
 
 -- what stopped reading the second time
-halts_then : (a b c : SourceSeen) (first last : Halt) → HasNotFailed first → Halts a b first →
+halts_then : (a b c : SourceSeen) (first last : Halt) → HasMore first → Halts a b first →
     Halts b c last → Halts a c last
 halts_then a b c first last fine h k =
     record {
       cause = by_last last k.cause (stayed first fine h.cause);
+      ended = k.ended ∙ ap (λ (x : Bool). x || is_at_end last) (goes_on first fine h.ended);
       faults = (let x = h.faults in let y = k.faults in omega arith);
       idles = (let x = h.idles in let y = k.idles in omega arith);
     }
   where
-    stayed : (halt : Halt) → HasNotFailed halt → HaltCause a b halt → b.faults ≡ a.faults
+    stayed : (halt : Halt) → HasMore halt → HaltCause a b halt → b.faults ≡ a.faults
     stayed Whole fine cause = cause
     stayed Idle fine cause = cause.1
-    stayed End fine cause = cause.1
+    stayed End fine cause = absurd fine
     stayed Failed fine cause = absurd fine
+
+    goes_on : (halt : Halt) → HasMore halt → b.ended ≡ (a.ended || is_at_end halt) →
+        b.ended ≡ a.ended
+    goes_on Whole fine is = is ∙ or-false a.ended
+    goes_on Idle fine is = is ∙ or-false a.ended
+    goes_on End fine is = absurd fine
+    goes_on Failed fine is = absurd fine
 
     since : (before mid now : ℕ) → before ≤ mid → Rose mid now → Rose before now
     since before mid now later rose = omega (arith, later, rose)
@@ -113,7 +121,7 @@ counts_then a b c failed h k =
 
 -- and all of it
 pub did_then : (input output more out : List Sound) (halt last : Halt) (answer : SinkAnswer)
-    (x y z : AudioAt) → HasNotFailed halt → AudioDid input output halt Done x y →
+    (x y z : AudioAt) → HasMore halt → AudioDid input output halt Done x y →
     AudioDid more out last answer y z → AudioDid (input ++ more) (output ++ out) last answer x z
 did_then input output more out halt last answer x y z fine h k =
     let channels = x.ends.channels

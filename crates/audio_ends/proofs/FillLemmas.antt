@@ -1,5 +1,5 @@
 -- Bytes read one part behind another.
-use Rattle.std.proofs.Common.{◌≡◌, ℕ, ◌+◌, ◌-◌, ◌≤◌, ◌<◌, ◌*◌, ◌/◌, ◌%◌, zero, suc, List, [], ◌∷◌, ◌++◌, length, take, drop, Option, Some, None, refl, sym, ap, ◌∙◌, subst, arith, append_assoc, append-nil}
+use Rattle.std.proofs.Common.{◌≡◌, ℕ, ◌+◌, ◌-◌, ◌≤◌, ◌<◌, ◌*◌, ◌/◌, ◌%◌, zero, suc, Bool, true, false, ◌||◌, List, [], ◌∷◌, ◌++◌, length, take, drop, Option, Some, None, refl, sym, ap, ◌∙◌, subst, arith, append_assoc, append-nil}
 use Rattle.std.proofs.Math.Seq.{take-append-add, take-add}
 use Rattle.std.proofs.lemmas.Nat.{div-add-mod'}
 use Rattle.sl_base.specs.Sounds.{Sound}
@@ -10,6 +10,10 @@ use Rattle.std.proofs.lemmas.List.{take-append-le}
 use borrow.Rule.Slice.PartMut.{put_mid, post_of}
 use Rattle.live_ports.specs.Sources.{SourceSeen, DidRead, Consumes}
 use Rattle.audio_ends.specs.Fills.{HasRead, CameBehind, ReadsFrames}
+
+pub or-false : (b : Bool) → (b || false) ≡ b
+or-false true = refl
+or-false false = refl
 
 -- bytes that came, and bytes behind them
 pub consumes_then : (a b c : Option (List ℕ)) (xs ys : List ℕ) → Consumes a xs b →

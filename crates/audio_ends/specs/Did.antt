@@ -3,7 +3,8 @@
 -- so with the frames read and played behind it. The frames read are those of the bytes that the
 -- source gave, behind the bytes that were kept; the bytes written are the samples of the frames
 -- played, all of them or, where the sink failed, a first part. Reading stopped for a reason.
--- Such doings compose where the first ended with neither a failed read nor a failed write.
+-- Such doings compose where the first ended with neither a failed read nor a failed write, nor at the
+-- source's end.
 -- "The turn of audio" in docs/rules.md.
 use Rattle.std.specs.Prelude.{◌≡◌, ◌<◌, ◌≤◌, ◌+◌, ◌⊎◌, ⊤, ℕ, List, length, Option}
 use Rattle.sl_base.specs.Limits.{max_period}
@@ -61,7 +62,9 @@ pub record AudioDid (input output : List Sound) (halt : Halt) (answer : SinkAnsw
   pub wrote : Writes x.sink.held y.sink.held (samples x.ends.channels 16 output) answer
   pub counts : Counts x.sink.faults y.sink.faults (is_failed answer)
 
--- reading stopped for no failure
-abbrev pub HasNotFailed : Halt → Type 0
-HasNotFailed Failed = ⊥
-HasNotFailed _ = ⊤
+-- reading stopped where more may come
+abbrev pub HasMore : Halt → Type 0
+HasMore Whole = ⊤
+HasMore Idle = ⊤
+HasMore End = ⊥
+HasMore Failed = ⊥

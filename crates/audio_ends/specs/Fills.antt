@@ -1,7 +1,7 @@
 -- A period is read as whole frames of 16 bits. The bytes of a frame that isn't whole yet are kept,
 -- and come before those that are read for the next one.
 -- "The turn of audio" in docs/rules.md.
-use Rattle.std.specs.Prelude.{◌≡◌, ◌≤◌, ◌<◌, ◌*◌, ℕ, Bool, true, List, ◌++◌, length, take, Option}
+use Rattle.std.specs.Prelude.{◌≡◌, ◌≤◌, ◌<◌, ◌*◌, ℕ, Bool, true, false, ◌||◌, List, ◌++◌, length, take, Option}
 use Rattle.sl_base.specs.Counting.{Rose}
 use Rattle.sl_base.specs.Sounds.{Sound}
 use Rattle.wav_pcm.specs.WavText.{frame_size, samples_size}
@@ -30,9 +30,17 @@ HaltCause old new Idle = Rose old.idles new.idles × (new.faults ≡ old.faults)
 HaltCause old new End = (new.ended ≡ true) × (new.faults ≡ old.faults)
 HaltCause old new Failed = Rose old.faults new.faults
 
--- reads ended so, and no count fell
+-- the source told that it is at its end
+abbrev pub is_at_end : Halt → Bool
+is_at_end Whole = false
+is_at_end Idle = false
+is_at_end End = true
+is_at_end Failed = false
+
+-- reads ended so, no count fell, and the source has ended only where it told so
 pub record Halts (old new : SourceSeen) (halt : Halt) : Type 0 where
   pub cause : HaltCause old new halt
+  pub ended : new.ended ≡ (old.ended || is_at_end halt)
   pub faults : old.faults ≤ new.faults
   pub idles : old.idles ≤ new.idles
 

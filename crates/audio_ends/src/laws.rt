@@ -13,7 +13,7 @@ ghost use Rattle.audio_ends.specs.declared.fill.Halt.{Halt};
 ghost use Rattle.audio_ends.specs.declared.rings.RingEnds.{RingEnds};
 ghost use Rattle.audio_ends.specs.Ends.{passed, HasLimits, MayTurn};
 ghost use Rattle.audio_ends.specs.declared.state.Turn.{Turn};
-ghost use Rattle.audio_ends.specs.Did.{AudioAt, AudioDid, HasNotFailed};
+ghost use Rattle.audio_ends.specs.Did.{AudioAt, AudioDid, HasMore};
 ghost use Rattle.audio_ends.specs.States.{StateCause};
 ghost use Rattle.audio_ends.specs.Turned.{Turned};
 
@@ -24,10 +24,11 @@ pub fn turns_may_begin()
         MayTurn (first_engine b) a }
 {}
 
-/// What was done, and what was done behind it, is one doing over both lists of frames.
+/// What was done, and what was done behind it where more may come, is one doing over both lists of
+/// frames.
 pub fn what_audio_did_composes()
     ensures { (input output more out : List Sound) → (halt last : Halt) → (answer : SinkAnswer) →
-        (x y z : AudioAt) → HasNotFailed halt → AudioDid input output halt Done x y →
+        (x y z : AudioAt) → HasMore halt → AudioDid input output halt Done x y →
         AudioDid more out last answer y z →
         AudioDid (input ++ more) (output ++ out) last answer x z }
 {}

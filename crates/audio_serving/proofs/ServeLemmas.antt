@@ -1,5 +1,5 @@
 -- Turns, one behind another, until the audio is at its end.
-use Rattle.std.proofs.Common.{◌≡◌, ◌≢◌, ◌≤◌, ◌+◌, ◌*◌, ℕ, Bool, true, false, List, [], ◌++◌, length, nat_le, Option, Some, None, refl, sym, ap, ◌∙◌, subst, arith, append-nil}
+use Rattle.std.proofs.Common.{◌≡◌, ◌≢◌, ◌≤◌, ◌+◌, ◌*◌, ℕ, zero, suc, Bool, true, false, List, [], ◌++◌, length, nat_le, Option, Some, None, refl, sym, ap, ◌∙◌, subst, arith, append-nil}
 use Rattle.std.specs.Io.KnownBytes.{Appends}
 use Rattle.sl_base.specs.Limits.{max_session_frames}
 use Rattle.sl_base.specs.Sounds.{Sound}
@@ -14,10 +14,11 @@ use Rattle.audio_ends.specs.declared.AudioState.{AudioState}
 use Rattle.audio_ends.specs.declared.AudioState.TheVariants.{ReadFault, WriteFault, Torn, EndOfInput, Quit, LongInput, More}
 use Rattle.audio_ends.specs.declared.Turn.{Turn}
 use Rattle.audio_ends.specs.Ends.{passed}
-use Rattle.audio_ends.specs.Did.{AudioAt, MayGoOn, AudioDid, HasNotFailed}
+use Rattle.audio_ends.specs.Did.{AudioAt, MayGoOn, AudioDid, HasMore}
 use Rattle.audio_ends.specs.States.{state_of, ended_state, going_state}
 use Rattle.audio_ends.specs.Turned.{Turned}
 use Rattle.audio_ends.proofs.TurnLemmas.{on_none}
+use Rattle.audio_ends.proofs.FillLemmas.{or-false}
 use Rattle.audio_ends.proofs.DidLemmas.{did_then}
 use Rattle.audio_serving.specs.Serving.{Served}
 
@@ -51,33 +52,39 @@ nothing_did x may =
         size = (let none : 0 * frame_size x.ends.channels 16 ≡ 0 = omega arith in sym none);
         are = refl;
       };
-      halts = record { cause = refl; faults = omega arith; idles = omega arith };
+      halts = record {
+        cause = refl;
+        ended = sym (or-false x.source.ended);
+        faults = omega arith;
+        idles = omega arith;
+      };
       wrote = appends_none x.sink.held;
       counts = record { later = omega arith; rose = λ is. absurd (cc); stayed = λ is. refl };
     }
 
--- turns went on so far: none failed to read or to write
+-- turns went on so far: none failed to read or to write, or came to the end
 pub record GoneOn (x y : AudioAt) : Type 0 where
   pub input : List Sound
   pub output : List Sound
   pub halt : Halt
-  pub fine : HasNotFailed halt
+  pub fine : HasMore halt
   pub did : AudioDid input output halt Done x y
 
 pub gone_nowhere : (x : AudioAt) → MayGoOn x → GoneOn x x
 gone_nowhere x may =
     record { input = []; output = []; halt = Whole; fine = tt; did = nothing_did x may }
 
--- the audio goes on only where neither failed
+-- the audio goes on only where neither failed, and more may come
 went_fine : (halt : Halt) (answer : SinkAnswer) (kept : ℕ) (quit done : Bool) →
-    state_of halt answer kept quit done ≡ More → HasNotFailed halt × (answer ≡ Done)
+    state_of halt answer kept quit done ≡ More → HasMore halt × (answer ≡ Done)
 went_fine Failed answer kept quit done is = absurd (cc)
 went_fine Whole Unwritten kept quit done is = absurd (cc)
 went_fine Idle Unwritten kept quit done is = absurd (cc)
 went_fine End Unwritten kept quit done is = absurd (cc)
 went_fine Whole Done kept quit done is = (tt, refl)
 went_fine Idle Done kept quit done is = (tt, refl)
-went_fine End Done kept quit done is = (tt, refl)
+went_fine End Done zero quit done is = absurd (cc)
+went_fine End Done (suc kept) quit done is = absurd (cc)
 
 -- one turn more
 pub gone_further : (x y z : AudioAt) (t : Turn) → GoneOn x y → Turned y z t → t.state ≡ More →

@@ -44,3 +44,17 @@ done_both one other is = by_first (first_is one other)
         let other_done : other ≡ Done = sym first ∙ is in
         let most : rank other ≡ 6 = ap rank other_done in
         (last_is_done one (omega arith), other_done)
+
+-- the first of two stands behind neither
+pub first_no_later : (one other : LiveStatus) →
+    (rank (first_of one other) ≤ rank one) × (rank (first_of one other) ≤ rank other)
+first_no_later one other = by_first (first_is one other)
+  where
+    by_first : IsFirst one other (first_of one other) →
+        (rank (first_of one other) ≤ rank one) × (rank (first_of one other) ≤ rank other)
+    by_first (one_is first before) =
+        let same : rank (first_of one other) ≡ rank one = ap rank first in
+        (omega (arith, same), omega (arith, same, before))
+    by_first (other_is first before) =
+        let same : rank (first_of one other) ≡ rank other = ap rank first in
+        (omega (arith, same, before), omega (arith, same))

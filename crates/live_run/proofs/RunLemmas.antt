@@ -38,11 +38,12 @@ use Rattle.live_core.specs.Ending.{HasEnded}
 use Rattle.live_run.specs.declared.outside.Outside.{Outside}
 use Rattle.live_run.specs.declared.outside.End.{End}
 use Rattle.live_run.specs.Statuses.{first_of}
-use Rattle.live_run.specs.Causes.{Told, Cause}
+use Rattle.live_run.specs.Causes.{Told, Cause, EachIsTold}
 use Rattle.live_run.specs.Closing.{closing_text}
 use Rattle.live_run.specs.Playing.{named_in, beginning, devices_of, outside_with, numbers_of, HasClosed, HasPlayed, Refuses, is_reading, HasRefused, Plays, played, refused}
 use Rattle.live_run.specs.Steps.{PassesBegin, TurnsAway}
 use Rattle.live_run.proofs.CauseLemmas.{core_cause, first_cause}
+use Rattle.live_run.proofs.AlwaysLemmas.{each_told}
 
 -- the files are bad, or aren't read
 files_refuse : {P : Type 0} (k : Keeper P) (asked : LiveAsked) (old new : P) (fault : FilesFault)
@@ -190,6 +191,16 @@ module _ {P A O L M C : Type 0} (k : Keeper P) (a : Source A) (o : Sink O) (l : 
         (closing_text (numbers_of ended saves) (first_of ended.status closed.wrote)) refl failed
         closed.journal_is_written closed.console_is_told core))
 
+    each : EachIsTold a o l m c told old e.outside closed.status
+    each =
+        subst (λ (x : Outside P A O L M C). EachIsTold a o l m c told old x closed.status)
+        (sym closed.others)
+        (subst (EachIsTold a o l m c told old new) (sym closed.first)
+        (each_told a o l m c told old new h.osc_ended h.midi_ended h.state ended.status
+        closed.wrote closed.told
+        (closing_text (numbers_of ended saves) (first_of ended.status closed.wrote)) h.status
+        h.link_cause h.midi_cause why closed.console_is_told))
+
     pub has_played : Plays k a o l m c asked old e
     has_played =
         played (record {
@@ -200,5 +211,8 @@ module _ {P A O L M C : Type 0} (k : Keeper P) (a : Source A) (o : Sink O) (l : 
           only_read = only;
           session = h;
           closed = closed;
+          told = told;
+          told_is = refl;
           cause = because;
+          always = each;
         })

@@ -8,8 +8,10 @@
 -- - LongInput: all frames of a session were played.
 -- - LinkFault: the link's count of receives rose.
 -- - Memory: nothing is said.
+-- And no fault is passed over: where a count of faults rose, the input ended within a frame, or all
+-- frames were played, the status is that of this fault or one before it in the order.
 -- "Statuses" in docs/formats.md.
-use Rattle.std.specs.Prelude.{◌≡◌, ◌≤◌, ◌⊎◌, ⊤, ℕ, ◌+◌, true, List, length, Option, is_some, IsTrue}
+use Rattle.std.specs.Prelude.{◌≡◌, ◌≤◌, ◌<◌, ◌⊎◌, ⊤, ℕ, ◌+◌, true, false, List, length, Option, is_some, IsTrue}
 use Rattle.sl_base.specs.Counting.{Rose, RoseBy}
 use Rattle.sl_base.specs.Limits.{max_session_frames}
 use Rattle.sl_commands.specs.declared.entry.Entry.{Entry}
@@ -22,6 +24,7 @@ use Rattle.live_session.specs.Whole.{has_quit}
 use Rattle.live_core.specs.declared.status.LiveStatus.{LiveStatus}
 use Rattle.live_core.specs.declared.status.LiveStatus.TheVariants.{Done, ReadFault, WriteFault, Torn, LinkFault, Memory, LongInput}
 use Rattle.live_run.specs.declared.outside.Outside.{Outside}
+use Rattle.live_run.specs.Statuses.{rank}
 
 -- what a session was asked to write, and what came of it: the journal's name, the entries, the
 -- outcomes of its saves, the bytes left over, and how many frames were played
@@ -61,3 +64,17 @@ Cause k a o l m c t old new Torn = ((a.seen new.audio).ended ≡ true) × (1 ≤
 Cause k a o l m c t old new LongInput = t.frames ≡ max_session_frames
 Cause k a o l m c t old new LinkFault = Rose (l.seen old.link).receives (l.seen new.link).receives
 Cause k a o l m c t old new Memory = ⊤
+
+-- no fault is passed over: the status is its own or one before it; what came of the journal's write
+-- takes part in the status beside these
+pub record EachIsTold {P A O L M C : Type 0} (a : Source A) (o : Sink O) (l : Link L) (m : Source M)
+    (c : Sink C) (t : Told) (old new : Outside P A O L M C) (status : LiveStatus) : Type 0 where
+  pub reads : (a.seen old.audio).faults < (a.seen new.audio).faults → rank status ≤ rank ReadFault
+  pub midi : (m.seen old.midi).faults < (m.seen new.midi).faults → rank status ≤ rank ReadFault
+  pub writes : o.faults old.out < o.faults new.out → rank status ≤ rank WriteFault
+  pub console : c.faults old.console < c.faults new.console → rank status ≤ rank WriteFault
+  pub torn : (a.seen old.audio).ended ≡ false → (a.seen new.audio).ended ≡ true →
+      1 ≤ length t.rest → rank status ≤ rank Torn
+  pub played : t.frames ≡ max_session_frames → rank status ≤ rank LongInput
+  pub receives : (l.seen old.link).receives < (l.seen new.link).receives →
+      rank status ≤ rank LinkFault

@@ -36,7 +36,7 @@ use Rattle.live_run.specs.declared.outside.End.{End}
 use Rattle.live_run.specs.Statuses.{first_of}
 use Rattle.live_run.specs.Writing.{WritesJournal}
 use Rattle.live_run.specs.Closing.{closing_text, TellsClosing}
-use Rattle.live_run.specs.Causes.{Cause}
+use Rattle.live_run.specs.Causes.{Told, Cause, EachIsTold}
 
 -- the files that a session names
 abbrev pub named_in : LiveAsked → LiveNamed
@@ -132,13 +132,16 @@ pub record HasPlayed {P A O L M C : Type 0} (k : Keeper P) (a : Source A) (o : S
   pub closed : HasClosed k c asked.journal
       (length (run_of (beginning asked contents) ended.journal.entries session.whole.input).saves)
       ended old.console e
-  pub cause : Cause k a o l m c (record {
+  pub told : Told
+  pub told_is : told ≡ record {
     name = asked.journal;
     journal = ended.journal.entries;
     outcomes = session.whole.outcomes;
     rest = session.whole.output_is_the_run.rest;
     frames = ended.frames;
-  }) old e.outside closed.status
+  }
+  pub cause : Cause k a o l m c told old e.outside closed.status
+  pub always : EachIsTold a o l m c told old e.outside closed.status
 
 -- why no session was played
 abbrev pub Refuses : {P : Type 0} → Keeper P → LiveAsked → P → P → RunFault → Type 0

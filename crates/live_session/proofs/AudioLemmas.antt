@@ -15,9 +15,10 @@ use Rattle.audio_ends.specs.declared.fill.Halt.{Halt}
 use Rattle.audio_ends.specs.declared.fill.Halt.TheVariants.{Whole, Idle, End, Failed}
 use Rattle.audio_ends.specs.declared.state.AudioState.TheVariants.{More}
 use Rattle.audio_ends.specs.Ends.{is_quit}
-use Rattle.audio_ends.specs.Fills.{HaltCause}
+use Rattle.audio_ends.specs.Fills.{Halts}
 use Rattle.audio_ends.specs.Did.{SinkSeen}
 use Rattle.audio_ends.specs.States.{state_of, going_state}
+use Rattle.audio_ends.proofs.FillLemmas.{or-false}
 use Rattle.live_session.specs.Whole.{HadNoFault, WhyEnded, has_quit}
 use Rattle.live_session.proofs.JournalLemmas.{with_one, commands_of-cons}
 
@@ -31,36 +32,39 @@ module _ (source source' : SourceSeen) (sink sink' : SinkSeen) (journal : List E
     (frames : ℕ) where
   -- the audio went on, without a fault, to a quit or to the last frame
   why_going : (rest : List ℕ) (quit done : Bool) → HadNoFault source source' sink sink' →
+      source'.ended ≡ source.ended →
       (quit ≡ true → has_quit journal ≡ true) → (done ≡ true → max_session_frames ≤ frames) →
       going_state quit done ≢ More →
       WhyEnded (going_state quit done) source source' sink sink' rest journal frames
-  why_going rest true done fine quits ends over = (fine, quits refl)
-  why_going rest false true fine quits ends over = (fine, ends refl)
-  why_going rest false false fine quits ends over = absurd (over refl)
+  why_going rest true done fine same quits ends over = (fine, quits refl, same)
+  why_going rest false true fine same quits ends over = (fine, ends refl, same)
+  why_going rest false false fine same quits ends over = absurd (over refl)
 
   pub why_ended : (halt : Halt) (answer : SinkAnswer) (rest : List ℕ) (quit done : Bool) →
-      HaltCause source source' halt → Counts sink.faults sink'.faults (is_failed answer) →
+      Halts source source' halt → Counts sink.faults sink'.faults (is_failed answer) →
       (quit ≡ true → has_quit journal ≡ true) → (done ≡ true → max_session_frames ≤ frames) →
       state_of halt answer (length rest) quit done ≢ More →
       WhyEnded (state_of halt answer (length rest) quit done) source source' sink sink' rest
       journal frames
-  why_ended Failed answer rest quit done cause counts quits ends over = cause
-  why_ended Whole Unwritten rest quit done cause counts quits ends over =
-      (cause, counts.rose refl)
-  why_ended Idle Unwritten rest quit done cause counts quits ends over =
-      (cause.1, counts.rose refl)
-  why_ended End Unwritten rest quit done cause counts quits ends over =
-      (cause.1, counts.rose refl)
-  why_ended Whole Done rest quit done cause counts quits ends over =
-      why_going rest quit done (record { reads = cause; writes = counts.stayed refl }) quits ends
-      over
-  why_ended Idle Done rest quit done cause counts quits ends over =
-      why_going rest quit done (record { reads = cause.1; writes = counts.stayed refl }) quits ends
-      over
-  why_ended End Done [] quit done cause counts quits ends over =
-      (record { reads = cause.1; writes = counts.stayed refl }, cause.0, refl)
-  why_ended End Done (x ∷ rest) quit done cause counts quits ends over =
-      (record { reads = cause.1; writes = counts.stayed refl }, cause.0, omega arith)
+  why_ended Failed answer rest quit done halts counts quits ends over = halts.cause
+  why_ended Whole Unwritten rest quit done halts counts quits ends over =
+      (halts.cause, counts.rose refl)
+  why_ended Idle Unwritten rest quit done halts counts quits ends over =
+      (halts.cause.1, counts.rose refl)
+  why_ended End Unwritten rest quit done halts counts quits ends over =
+      (halts.cause.1, counts.rose refl)
+  why_ended Whole Done rest quit done halts counts quits ends over =
+      why_going rest quit done
+      (record { reads = halts.cause; writes = counts.stayed refl })
+      (halts.ended ∙ or-false source.ended) quits ends over
+  why_ended Idle Done rest quit done halts counts quits ends over =
+      why_going rest quit done
+      (record { reads = halts.cause.1; writes = counts.stayed refl })
+      (halts.ended ∙ or-false source.ended) quits ends over
+  why_ended End Done [] quit done halts counts quits ends over =
+      (record { reads = halts.cause.1; writes = counts.stayed refl }, halts.cause.0, refl)
+  why_ended End Done (x ∷ rest) quit done halts counts quits ends over =
+      (record { reads = halts.cause.1; writes = counts.stayed refl }, halts.cause.0, omega arith)
 
 -- a quit among a sender's commands stands in the journal
 quit_first : (b q : Bool) (c : Command) (cs : List Command) (rest : Bool) → is_quit c ≡ q →

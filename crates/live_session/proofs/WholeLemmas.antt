@@ -387,7 +387,7 @@ module _ {P : Type 0} (k : Keeper P) (b : Beginning) (bindings : List Binding) (
               (why_ended s.audio.source t.audio.source s.audio.sink t.audio.sink journal
               (length input) h.audio.halt h.audio.answer t.audio.ends.rest.items
               t.audio.ends.rings.quit (nat_le max_session_frames t.audio.engine.frames)
-              d.halts.cause d.counts quits all_done
+              d.halts d.counts quits all_done
               (λ is. h.audio.over (h.audio.state_is ∙ is)));
         }
 

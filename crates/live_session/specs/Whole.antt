@@ -108,7 +108,8 @@ pub record HadNoFault (source source' : SourceSeen) (sink sink' : SinkSeen) : Ty
   pub reads : source'.faults ≡ source.faults
   pub writes : sink'.faults ≡ sink.faults
 
--- why the audio ended so, by the bytes left over, the journal and the number of frames
+-- why the audio ended so, by the bytes left over, the journal and the number of frames: a quit and
+-- the last frame end it only where the source didn't come to its end
 abbrev pub WhyEnded : AudioState → SourceSeen → SourceSeen → SinkSeen → SinkSeen → List ℕ →
     List Entry → ℕ → Type 0
 WhyEnded ReadFault source source' sink sink' rest journal frames =
@@ -121,8 +122,10 @@ WhyEnded EndOfInput source source' sink sink' rest journal frames =
     HadNoFault source source' sink sink' × (source'.ended ≡ true) × (rest ≡ [])
 WhyEnded Quit source source' sink sink' rest journal frames =
     HadNoFault source source' sink sink' × (has_quit journal ≡ true)
+    × (source'.ended ≡ source.ended)
 WhyEnded LongInput source source' sink sink' rest journal frames =
     HadNoFault source source' sink sink' × (max_session_frames ≤ frames)
+    × (source'.ended ≡ source.ended)
 WhyEnded More source source' sink sink' rest journal frames = ⊥
 
 -- the bytes of the audio source are these frames and fewer bytes than a frame has, and the bytes

@@ -1,7 +1,7 @@
 use Rattle.std.proofs.Common.{arith, refl, sym, ◌∙◌, ap, subst, append_assoc, append-nil, length, take, drop, length-take, length-drop, ◌≡◌, ◌-◌, ◌+◌, ◌++◌, []}
 use Rattle.live_ports.specs.Sources.{Consumes}
 use Rattle.audio_ends.specs.Fills.{HasRead}
-use Rattle.audio_ends.proofs.FillLemmas.{read_none, read_more, put_part, length_put}
+use Rattle.audio_ends.proofs.FillLemmas.{or-false, read_none, read_more, put_part, length_put}
 use Rattle.audio_ends.proofs.fill.fill_behind.Goals as goal
 
 pub loop-done-init : goal.loop-done-init
@@ -9,6 +9,7 @@ loop-done-init g c = (
   c.requires,
   read_none (g.A.Source.seen c.args.source.now).left c.args.kept
       c.args.bytes.now,
+  refl,
   refl,
   refl,
   omega arith,
@@ -32,5 +33,6 @@ loop-done-preserved g c =
           c.in-Got.ensures.did.gives part,
       (c.in-Got.ensures.did.faults.stayed refl ∙ i.2),
       (c.in-Got.ensures.did.idles.stayed refl ∙ i.3),
+      (c.in-Got.ensures.did.ended ∙ or-false _ ∙ i.4),
       (omega arith),
     )

@@ -9,6 +9,7 @@ invariant-loop-done g l =
     l.fn.bytes l.bytes
     × ((g.A.Source.seen l.source).faults ≡ (g.A.Source.seen l.fn.source).faults)
     × ((g.A.Source.seen l.source).idles ≡ (g.A.Source.seen l.fn.source).idles)
+    × ((g.A.Source.seen l.source).ended ≡ (g.A.Source.seen l.fn.source).ended)
     × (l.kept ≤ l.done)
 
 abbrev pub decreases-loop-done : goal.decreases-loop-done
