@@ -5,11 +5,11 @@
 //!   words do. Each fills in the defaults.
 //! - The fault is `Words` exactly where the words aren't in the grammar.
 //! - What is given lies in its ranges, so that no caller tests it again.
-//! - Only a path is copied, behind all tests: `Memory` comes only where words ask for a live session.
+//! - Only a path is copied, behind all tests: `Memory` comes only where words ask for a live
+//!   session.
 //!
-//! Begin with `plain` and `live`; `options` and `live_options` read what stands behind the names, and
-//! `values` each word.
-//! The form is "The words of the command line" in docs/formats.md.
+//! Begin with `plain` and `live`; `options` and `live_options` read what stands behind the names,
+//! and `values` each word. The form is "The words of the command line" in docs/formats.md.
 #![tactic(auto)]
 
 mod fault;

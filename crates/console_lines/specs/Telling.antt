@@ -1,6 +1,6 @@
 -- What a run that isn't done tells the console: a line of the status, and before it that of the bad
--- file, with its fault and its line. Want of memory tells nothing. A run that is done tells its text,
--- with the line of its status behind it.
+-- file, with its fault and its line. Want of memory tells nothing. A run that is done tells its
+-- text, with the line of its status behind it.
 -- "The console" in docs/formats.md.
 use Rattle.std.specs.Prelude.{◌≡◌, ℕ, List, ◌∷◌, [], ◌++◌, codes}
 use Rattle.std.specs.Fmt.{decimal}

@@ -1,17 +1,20 @@
-//! Puts the real ends to use, for checks/ends.py. Without words it is silent, and so with others than these.
+//! Puts the real ends to use, for checks/ends.py. Without words it is silent, and so with others
+//! than these.
 //!
 //! ```text
-//! ends link local     sends each packet that comes to 127.0.0.1 back, until one says `end`; the port is told first
+//! ends link local     sends each packet that comes to 127.0.0.1 back, until one says `end`;
+//!                     the port is told first
 //! ends link all       the same at all addresses
 //! ends link none      the same of the link to nowhere, which has no port
 //! ends file PATH      writes the bytes of a device, a FIFO or a file to standard output
 //! ends input          the same of standard input
-//! ends keep NAME TIMES  writes the file NAME of the working directory so often, and reads it again each time
+//! ends keep NAME TIMES  writes the file NAME of the working directory so often, and reads it
+//!                     again each time
 //! ```
 //!
-//! Each ends by itself: the link after 1000 turns, of which one waits for 20 ms at most, a file after 50 reads that gave nothing. The
-//! status is 0 at the end, 1 where nothing more came, 4 where a call failed, 5 where what came can't be written, 6 where a file isn't what
-//! was written.
+//! Each ends by itself: the link after 1000 turns, of which one waits for 20 ms at most, a file
+//! after 50 reads that gave nothing. The status is 0 at the end, 1 where nothing more came, 4 where
+//! a call failed, 5 where what came can't be written, 6 where a file isn't what was written.
 #![tactic(auto)]
 
 use live_ports::{

@@ -1,6 +1,6 @@
--- A run is the engine and the saver, the buffers of its period, OUT as far as it was heard, and what
--- was told, in so many replies. It plays the frames of its input one behind the other, and puts the
--- samples of what is heard at the end of OUT.
+-- A run is the engine and the saver, the buffers of its period, OUT as far as it was heard, and
+-- what was told, in so many replies. It plays the frames of its input one behind the other, and
+-- puts the samples of what is heard at the end of OUT.
 -- "The run" in docs/rules.md.
 use Rattle.std.specs.Prelude.{◌≡◌, ℕ, ◌+◌, ◌-◌, List, [], ◌∷◌, ◌++◌, length, None, option_to_list}
 use Rattle.sl_base.specs.Sounds.{Sound}

@@ -53,9 +53,11 @@ entered_before e m next same h =
 -- all parts of a turn: what was taken, the period, and the blocks
 pub turned : (e m k next : EngineOf) (old last : AudioEnds) (b : RingEnds) (s t : SourceSeen)
     (o u : SinkSeen) (taken : Stops) (blocks : Stop) (p : Played) (done : Bool)
-    (state : AudioState) → MayTurn e old.rings → IsReady old → Takes e m old.rings b → Causes e old.rings b taken →
+    (state : AudioState) → MayTurn e old.rings → IsReady old → Takes e m old.rings b → Causes e
+        old.rings b taken →
     Plays old.channels old.most m k s t o u old.rest.items last.rest.items p →
-    last.channels ≡ old.channels → last.most ≡ old.most → Stays k next b last.rings → next.journal ≡ k.journal →
+    last.channels ≡ old.channels → last.most ≡ old.most → Stays k next b last.rings → next.journal ≡
+        k.journal →
     BlockCause next b last.rings blocks → done ≡ nat_le max_session_frames next.frames →
     state ≡ state_of p.halt p.answer (length last.rest.items) last.rings.quit done →
     Turned (record { engine = e; ends = old; source = s; sink = o })
@@ -68,7 +70,8 @@ pub turned : (e m k next : EngineOf) (old last : AudioEnds) (b : RingEnds) (s t 
       blocks = blocks;
       state = state;
     })
-turned e m k next old last b s t o u taken blocks p done state may ready takes causes plays same size stays
+turned e m k next old last b s t o u taken blocks p done state may ready takes causes plays same
+    size stays
     journal cause all is =
     let xs = plays.input
     in let out = plays.output
@@ -122,7 +125,8 @@ turned e m k next old last b s t o u taken blocks p done state may ready takes c
       midi = cause_stays 1 e old.rings b d taken.midi stays.on causes.midi;
       saver = cause_stays 2 e old.rings b d taken.saver stays.on causes.saver;
       blocks = block_cause_since next old.rings b d blocks takes.stays.on cause;
-      state = is ∙ ap (λ all_done. state_of p.halt p.answer (length last.rest.items) d.quit all_done)
+      state = is ∙ ap (λ all_done. state_of p.halt p.answer (length last.rest.items) d.quit
+          all_done)
           all;
     }
 
@@ -146,8 +150,10 @@ pub turned_over : (e m k next : EngineOf) (old last : AudioEnds) (b now : RingEn
       blocks = blocks;
       state = state;
     })
-turned_over e m k next old last b now s t o u taken blocks p done state may ready takes causes plays same
+turned_over e m k next old last b now s t o u taken blocks p done state may ready takes causes plays
+    same
     size rings stays journal cause all is =
-    turned e m k next old last b s t o u taken blocks p done state may ready takes causes plays same size
+    turned e m k next old last b s t o u taken blocks p done state may ready takes causes plays same
+        size
     (subst (λ r. Stays k next r last.rings) rings stays) journal
     (subst (λ r. BlockCause next r last.rings blocks) rings cause) all is

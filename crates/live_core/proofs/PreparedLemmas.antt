@@ -104,13 +104,16 @@ module _ (s : Setup) (initial : List (List Sound)) (bindings : List Binding) (ch
       (record { unsent = new.sent; room = (let l = new.put_limit in omega arith) })
 
   pub osc_tells : MayTell p.overs.osc
-  osc_tells = may_tell p.overs.osc h.overs.osc.putter h.overs.osc.taker h.arranged.osc_over h.new_overs.osc
+  osc_tells = may_tell p.overs.osc h.overs.osc.putter h.overs.osc.taker h.arranged.osc_over
+      h.new_overs.osc
 
   pub midi_tells : MayTell p.overs.midi
-  midi_tells = may_tell p.overs.midi h.overs.midi.putter h.overs.midi.taker h.arranged.midi_over h.new_overs.midi
+  midi_tells = may_tell p.overs.midi h.overs.midi.putter h.overs.midi.taker h.arranged.midi_over
+      h.new_overs.midi
 
   pub saver_tells : MayTell p.overs.saver
-  saver_tells = may_tell p.overs.saver h.overs.saver.putter h.overs.saver.taker h.arranged.saver_over h.new_overs.saver
+  saver_tells = may_tell p.overs.saver h.overs.saver.putter h.overs.saver.taker
+      h.arranged.saver_over h.new_overs.saver
 
   no_saving : p.saver.saving ≡ None
   no_saving = ap (λ (x : SaverOf). x.saving) h.arranged.saver

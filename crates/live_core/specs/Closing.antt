@@ -1,5 +1,5 @@
--- Once the activities have given their parts back, the two ends of each ring meet; all else is as it
--- was given back.
+-- Once the activities have given their parts back, the two ends of each ring meet; all else is as
+-- it was given back.
 -- "The activities of a session" in docs/rules.md.
 use Rattle.std.specs.Prelude.{◌≡◌, ℕ, List}
 use Rattle.sl_ports.specs.declared.keepers.Keeper.{Ghosts as Keeper}

@@ -1,7 +1,7 @@
 -- A session that used its devices ends with a status. Several may hold at once, and the first in
--- this order is given: there was no memory, a read of audio or MIDI failed, a write of audio failed,
--- the input ended within a frame, all frames of a session were played, a receive failed. Else the
--- session is done.
+-- this order is given: there was no memory, a read of audio or MIDI failed, a write of audio
+-- failed, the input ended within a frame, all frames of a session were played, a receive failed.
+-- Else the session is done.
 -- "How a session ends" in docs/rules.md.
 use Rattle.std.specs.Prelude.{ℕ, Bool, true, false}
 use Rattle.audio_ends.specs.declared.state.AudioState.{AudioState}

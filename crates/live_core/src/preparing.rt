@@ -180,8 +180,8 @@ fn arrange(
     })
 }
 
-/// All that the activities own, for this setup, these lists and these bindings. Only this call takes
-/// memory before the session begins.
+/// All that the activities own, for this setup, these lists and these bindings. Only this call
+/// takes memory before the session begins.
 pub(crate) fn prepare<R: Wait>(
     alloc: Global,
     rt: &R,

@@ -107,11 +107,14 @@ pub fault_reads :
     OnlyReads k old new (is_unloaded {A = LiveFiles} (Err fault))
     → IsFaultOf fault told → OnlyReads k old new (is_unread {A = LiveFiles} (Err told))
 fault_reads k old new (BadFile at kind line) told reads is =
-    subst (λ (t : FilesFault). OnlyReads k old new (is_unread {A = LiveFiles} (Err t))) (sym is) reads
+    subst (λ (t : FilesFault). OnlyReads k old new (is_unread {A = LiveFiles} (Err t))) (sym is)
+        reads
 fault_reads k old new Unread told reads is =
-    subst (λ (t : FilesFault). OnlyReads k old new (is_unread {A = LiveFiles} (Err t))) (sym is) reads
+    subst (λ (t : FilesFault). OnlyReads k old new (is_unread {A = LiveFiles} (Err t))) (sym is)
+        reads
 fault_reads k old new NoMemory told reads is =
-    subst (λ (t : FilesFault). OnlyReads k old new (is_unread {A = LiveFiles} (Err t))) (sym is) reads
+    subst (λ (t : FilesFault). OnlyReads k old new (is_unread {A = LiveFiles} (Err t))) (sym is)
+        reads
 
 pub fault_value :
     (files : Option Files) (n : LiveNamed) (fault : LoadFault) (told : FilesFault) →
@@ -142,7 +145,8 @@ pub live_or_bad : (files : Files) (n : LiveNamed) (t : LiveContents) (name : Lis
     (kind line : ℕ) →
     IsLiveNamed n → HoldsLive (Some files) n t → FirstBadLive (Some files) n name kind line → ⊥
 live_or_bad files n t name kind line named holds (bad_session first) =
-    begins_or_bad files n.session n.rate n.loops t.settings t.lists name kind line holds.begins first
+    begins_or_bad files n.session n.rate n.loops t.settings t.lists name kind line holds.begins
+        first
 live_or_bad files n t name kind line named holds (bad_bindings settings lists begins first) =
     let same = one_beginning files n.session n.rate n.loops t.settings settings t.lists lists
     holds.begins begins in

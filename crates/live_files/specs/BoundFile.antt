@@ -1,6 +1,6 @@
--- A file of bindings is read for the number of loops. What is wrong with it has a number and a line:
--- 0 and 0 where it is missing, else the kind and the line of the text's first fault. Where no file
--- is named there are no bindings.
+-- A file of bindings is read for the number of loops. What is wrong with it has a number and a
+-- line: 0 and 0 where it is missing, else the kind and the line of the text's first fault. Where no
+-- file is named there are no bindings.
 -- "The files of a live session" in docs/formats.md.
 use Rattle.std.specs.Prelude.{◌≡◌, ℕ, List, [], Option, Some, None}
 use Rattle.sl_commands.specs.declared.fault.TextKind.{TextKind}
@@ -17,7 +17,8 @@ pub record HoldsBindings (files : Option Files) (name : List ℕ) (loops : ℕ)
   pub there : Holds files name (Some bytes)
   pub text : IsBindings loops bytes bindings
 
--- it is missing, or is no such text for so many loops, for the reason with this number, at this line
+-- it is missing, or is no such text for so many loops, for the reason with this number, at this
+-- line
 pub data LacksBindings (files : Option Files) (name : List ℕ) (loops kind line : ℕ) : Type 0 where
   no_bindings_file : Holds files name None → kind ≡ 0 → line ≡ 0 →
       LacksBindings files name loops kind line

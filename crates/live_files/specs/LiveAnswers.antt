@@ -53,8 +53,8 @@ JudgesLive files chunks (Err Read) = ⊥
 JudgesLive files chunks (Err Memory) = ⊥
 JudgesLive files chunks (Err Limit) = chunks < chunks_for files.initial
 
--- what was read is what these files tell; or their first bad file; or all are good and there are too
--- few chunks. A failed reading and want of memory say nothing
+-- what was read is what these files tell; or their first bad file; or all are good and there are
+-- too few chunks. A failed reading and want of memory say nothing
 abbrev pub ReadsLive : Option Files → LiveNamed → Result LiveFiles FilesFault → Type 0
 ReadsLive files n (Ok f) = IsLiveOf files n (told_live f)
 ReadsLive files n (Err (File name kind line)) = FirstBadLive files n name kind line

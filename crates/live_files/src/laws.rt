@@ -20,8 +20,8 @@ pub fn live_files_have_one_first_bad_file()
         → (name ≡ other) × (kind ≡ kind_too) × (line ≡ line_too) }
 {}
 
-/// A live session that is read has no bad file and chunks enough, and where there are too few chunks
-/// no file is bad.
+/// A live session that is read has no bad file and chunks enough, and where there are too few
+/// chunks no file is bad.
 pub fn live_files_are_read_or_refused()
     ensures file { (files : Files) (n : LiveNamed) (t : LiveContents) (name : List ℕ)
         (kind line : ℕ) → IsLiveNamed n → IsLiveOf (Some files) n t

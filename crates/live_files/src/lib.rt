@@ -1,8 +1,8 @@
 //! The files of a live session, read before a device is used, and the first bad one told exactly.
 //!
 //! - `read_live` reads a session with its WAV files where one is named, and then the bindings where
-//!   their file is named, for as many loops as there are. Where no session is named there are so many
-//!   empty loops at a rate, and where no bindings are named there are none.
+//!   their file is named, for as many loops as there are. Where no session is named there are so
+//!   many empty loops at a rate, and where no bindings are named there are none.
 //! - The first file that is missing or not in its form is told by its name, the number of what is
 //!   wrong and the line.
 //! - The chunks that the session's lists need are judged behind all files.

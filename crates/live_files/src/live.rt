@@ -68,8 +68,8 @@ fn judge(files: LiveFiles, chunks: u32) -> Result<LiveFiles, FilesFault>
 }
 
 /// Reads all that a live session begins with: the session and its WAV files by index where one is
-/// named, and the bindings where they are. The fault is the first by this order, and the limit comes
-/// behind all files.
+/// named, and the bindings where they are. The fault is the first by this order, and the limit
+/// comes behind all files.
 #[tactic(auto, using(crate::proofs::LiveLemmas::judged_reads, crate::proofs::LiveLemmas::judged_value, crate::proofs::LiveLemmas::judged_bindings, crate::proofs::LiveLemmas::fault_reads, crate::proofs::LiveLemmas::fault_value))]
 pub fn read_live<P: Keeper>(
     alloc: Global,

@@ -1,5 +1,5 @@
-//! The four activities, each as one call whose contract is its promise. No promise speaks of another
-//! activity.
+//! The four activities, each as one call whose contract is its promise. No promise speaks of
+//! another activity.
 
 ghost use Rattle.std.specs.Prelude.{◌≡◌, None};
 ghost use Rattle.audio_ends.specs.Did.{MayGoOn};

@@ -1,9 +1,9 @@
 -- Why a session that was played ended with its status.
--- - Done: the input was read to its end, or a quit stands in the journal, and no count of faults rose:
---   of the audio that was read and written, of MIDI, of receives, of the console.
+-- - Done: the input was read to its end, or a quit stands in the journal, and no count of faults
+--   rose: of the audio that was read and written, of MIDI, of receives, of the console.
 -- - ReadFault: the count of the audio source or of the MIDI source rose.
--- - WriteFault: the count of the sink of audio or of the console rose, or the journal was asked for and
---   the keeper's count of writes rose by more than the saves whose write failed.
+-- - WriteFault: the count of the sink of audio or of the console rose, or the journal was asked for
+--   and the keeper's count of writes rose by more than the saves whose write failed.
 -- - Torn: the audio source is at its end, and bytes are left over that are no frame.
 -- - LongInput: all frames of a session were played.
 -- - LinkFault: the link's count of receives rose.

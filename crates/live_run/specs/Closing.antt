@@ -1,5 +1,5 @@
--- At its end a session tells the console its numbers on one line, and its status on another. A console
--- that fails has a first part of them. Want of memory tells nothing.
+-- At its end a session tells the console its numbers on one line, and its status on another. A
+-- console that fails has a first part of them. Want of memory tells nothing.
 -- "The console" in docs/formats.md.
 use Rattle.std.specs.Prelude.{◌≡◌, ℕ, List, [], ◌∷◌, ◌++◌, codes}
 use Rattle.std.specs.Fmt.{decimal}

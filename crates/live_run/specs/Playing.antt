@@ -1,8 +1,8 @@
--- What `live` does with what stands outside: the keeper of files, the audio, the link of OSC, MIDI and
--- the console.
--- - The session and the bindings that it names are read first. Where one is bad, or a reading fails,
---   or the session needs more chunks than there are, or there is no memory, no device is used and no
---   file written, and the console is told why.
+-- What `live` does with what stands outside: the keeper of files, the audio, the link of OSC, MIDI
+-- and the console.
+-- - The session and the bindings that it names are read first. Where one is bad, or a reading
+--   fails, or the session needs more chunks than there are, or there is no memory, no device is
+--   used and no file written, and the console is told why.
 -- - Else the session is played to its end over these devices, and is whole: the journal holds each
 --   accepted command once, in its sender's order, and output, replies and saved files are those of
 --   one looper that replays it. Then the journal is written where it is asked for, and at last the
@@ -64,8 +64,8 @@ abbrev pub devices_of : {P A O L M C : Type 0} → P → Outside P A O L M C →
 devices_of keeper x =
     record { keeper = keeper; audio = x.audio; out = x.out; link = x.link; midi = x.midi }
 
--- what stands outside behind a session: its devices, with the keeper and the console behind the last
--- lines
+-- what stands outside behind a session: its devices, with the keeper and the console behind the
+-- last lines
 abbrev pub outside_with : {P A O L M C : Type 0} → P → C → Devices P A O L M → Outside P A O L M C
 outside_with keeper console d =
     record {

@@ -1,9 +1,9 @@
 -- What `live` does, by its words: they ask for a session, or they aren't those of one.
 -- - Status 2 comes exactly where the words aren't in the grammar: nothing is touched then but the
 --   console, which is told the status.
--- - Else the session is played or not (`Plays`). Status 3 comes where a file that is named is missing
---   or not in its form, unless 4 or 8 does; 9 comes where all files are good and the session needs
---   more chunks than there are, unless 4 or 8 does.
+-- - Else the session is played or not (`Plays`). Status 3 comes where a file that is named is
+--   missing or not in its form, unless 4 or 8 does; 9 comes where all files are good and the
+--   session needs more chunks than there are, unless 4 or 8 does.
 -- "Statuses" in docs/formats.md.
 use Rattle.std.specs.Prelude.{◌≡◌, ◌⊎◌, ◌↔◌, ℕ, List, Option, Some, None, IfSome}
 use Rattle.sl_ports.specs.Effects.{TellsTo}
@@ -48,8 +48,8 @@ abbrev pub IsLiveNumber : ℕ → Type 0
 IsLiveNumber n = (n ≡ 0) ⊎ (n ≡ 2) ⊎ (n ≡ 3) ⊎ (n ≡ 4) ⊎ (n ≡ 5) ⊎ (n ≡ 6) ⊎ (n ≡ 7) ⊎ (n ≡ 8)
     ⊎ (n ≡ 9) ⊎ (n ≡ 10)
 
--- a named file is missing or not in its form, or all are good and the session needs more chunks than
--- there are
+-- a named file is missing or not in its form, or all are good and the session needs more chunks
+-- than there are
 abbrev pub TellsBadFiles : Files → LiveAsked → ℕ → Type 0
 TellsBadFiles files asked status =
     ((name : List ℕ) (kind line : ℕ) → FirstBadLive (Some files) (named_in asked) name kind line →

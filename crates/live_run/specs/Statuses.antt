@@ -1,6 +1,7 @@
--- Where several statuses of a session hold, the first in this order is given: there was no memory, a
--- read failed, a write failed, the input ended within a frame, all frames of a session were played, a
--- receive failed. Else the session is done. The journal's write and the console's take part in it.
+-- Where several statuses of a session hold, the first in this order is given: there was no memory,
+-- a read failed, a write failed, the input ended within a frame, all frames of a session were
+-- played, a receive failed. Else the session is done. The journal's write and the console's take
+-- part in it.
 -- "Statuses" in docs/formats.md.
 use Rattle.std.specs.Prelude.{ℕ, List, [], ◌∷◌, ◌++◌, nat_le, if◌then◌else◌, codes}
 use Rattle.live_core.specs.declared.status.LiveStatus.{LiveStatus}

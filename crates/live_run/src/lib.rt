@@ -1,8 +1,8 @@
 //! `live`: a session that is played, from the words to the last line.
 //!
-//! - `live_run` reads the session and the bindings that the words name, before any device is used. It
-//!   then plays the session over its devices to the end, writes the journal where it is asked for,
-//!   and tells the console the closing lines.
+//! - `live_run` reads the session and the bindings that the words name, before any device is used.
+//!   It then plays the session over its devices to the end, writes the journal where it is asked
+//!   for, and tells the console the closing lines.
 //! - A session that was played is whole: its journal holds each accepted command once, in its
 //!   sender's order, and output, replies and saved files are those of one looper that replays that
 //!   journal (`specs/Playing`, `HasPlayed`).

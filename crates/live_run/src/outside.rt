@@ -5,8 +5,8 @@ use live_ports::{Link, Source};
 use senders::Account;
 use sl_ports::{Keeper, Sink};
 
-/// The keeper of files, the source and the sink of audio, the link of OSC, the source of MIDI, and the
-/// console.
+/// The keeper of files, the source and the sink of audio, the link of OSC, the source of MIDI, and
+/// the console.
 #[derive(Drop)]
 pub struct Outside<P: Keeper, A: Source, O: Sink, L: Link, M: Source, C: Sink> {
     pub keeper: P,
@@ -32,8 +32,8 @@ pub struct Session {
     pub refused: u64,
 }
 
-/// A run that has ended: its exit status, what stands outside, and the session, which is None where no
-/// device was used.
+/// A run that has ended: its exit status, what stands outside, and the session, which is None where
+/// no device was used.
 #[derive(Drop)]
 pub struct End<P: Keeper, A: Source, O: Sink, L: Link, M: Source, C: Sink> {
     pub status: u8,

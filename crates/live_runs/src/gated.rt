@@ -58,8 +58,8 @@ fn answers<'a>(alloc: Global, count: u32, behind: &[&'a [u8]]) -> Result<Vec<&'a
 /// The devices of a session that is held.
 type Gated<'a> = Devices<GatedKeeper<'a>, GatedSource<'a>, MemSink, GatedLink<'a>, MemSource>;
 
-/// The devices of a session whose flags are these: the keeper and the audio wait for one another where
-/// `waits_for_save` says so, and then the first packet waits for nothing.
+/// The devices of a session whose flags are these: the keeper and the audio wait for one another
+/// where `waits_for_save` says so, and then the first packet waits for nothing.
 fn devices<'a>(alloc: Global, flags: &'a Flags, link: MemLink, waits_for_save: bool) -> Gated<'a> {
     Devices {
         keeper: GatedKeeper::new(
@@ -97,8 +97,8 @@ fn run<'a, R: Wait + Clock + Threads + Sync>(
     }
 }
 
-/// Runs a session over these devices up to where its rings have met, before it is settled. Gives the
-/// reply that is held there.
+/// Runs a session over these devices up to where its rings have met, before it is settled. Gives
+/// the reply that is held there.
 fn held_reply<'a, R: Wait + Clock + Threads + Sync>(
     rt: &R,
     alloc: Global,

@@ -1,5 +1,5 @@
-//! Devices that wait for one another, so that a session comes to a given point whatever the schedule.
-//! Each waits for a bounded time, and then goes on.
+//! Devices that wait for one another, so that a session comes to a given point whatever the
+//! schedule. Each waits for a bounded time, and then goes on.
 
 use live_ports::{Link, LinkAnswer, MemLink, Source, SourceAnswer};
 use sl_base::{Addr, Name};

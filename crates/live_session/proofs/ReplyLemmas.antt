@@ -1,5 +1,5 @@
--- Each reply of a session has a return address: only commands of OSC ask, and each of them that asks
--- was accepted with its address.
+-- Each reply of a session has a return address: only commands of OSC ask, and each of them that
+-- asks was accepted with its address.
 use Rattle.std.proofs.Common.{◌≡◌, ℕ, zero, suc, ◌+◌, Bool, true, false, ◌==◌, nat_lt, List, [], ◌∷◌, ◌++◌, map, if◌then◌else◌, ◌⊎◌, inl, inr, Option, Some, None, option_map, is_some, slice_get, refl, sym, ap, ◌∙◌, subst, ltb-true, arith}
 use Rattle.std.specs.Prelude.{Contains}
 use Rattle.std.specs.List.{AllByRecursion, cons_option}
@@ -184,7 +184,8 @@ address_of loops accepted r c own good asked at =
     let is_good = good_at loops accepted r.seq at.one good at.there in
     let has : has_return at.one.answer ≡ true =
     is_good.returns ∙ ap asks at.command ∙ asked in
-    subst (λ (s : ℕ). is_some (if s == 0 then answer_of (slice_get accepted r.seq) else None) ≡ true)
+    subst (λ (s : ℕ). is_some (if s == 0 then answer_of (slice_get accepted r.seq) else None) ≡
+        true)
     (sym own)
     (subst (λ (o : Option Accepted). is_some (answer_of o) ≡ true) (sym at.there)
     (returns_some at.one.answer has))
@@ -203,7 +204,8 @@ same_seq : (en : Entry) (what : What) (r : Reply) →
 same_seq en what r is = ap (λ (q : Question). q.seq) (same_question en what r is)
 
 -- what a session keeps of its commands, as far as they were taken
-pub record Known (loops : ℕ) (es : List Entry) (accepted : List Accepted) (taken left : List Command)
+pub record Known (loops : ℕ) (es : List Entry) (accepted : List Accepted) (taken left : List
+    Command)
     : Type 0 where
   pub stamped : are_stamped es ≡ true
   pub valid : AllByRecursion (λ (en : Entry). is_valid loops en ≡ true) es

@@ -55,7 +55,8 @@ entered_strips : (n frame : ℕ) (es : List Entry) (l : Looper) → HasLoops n l
     AllByRecursion (HasStrips n) (entered frame es l).saves
 entered_strips n frame [] l has = tt
 entered_strips n frame (e ∷ es) l has =
-    all_append (HasStrips n) (option_to_list (save e l)) (entered frame es (applied frame e l)).saves
+    all_append (HasStrips n) (option_to_list (save e l)) (entered frame es (applied frame e
+        l)).saves
     (made_strips n e l (save e l) has refl)
     (entered_strips n frame es (applied frame e l) (applied-has_loops n frame e l has))
 

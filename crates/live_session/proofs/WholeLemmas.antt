@@ -300,8 +300,8 @@ module _ {P : Type 0} (k : Keeper P) (b : Beginning) (bindings : List Binding) (
           behind = last.behind;
         }
 
-    -- the replies that were told: those that OSC told, those left in the ring, the one that was held
-    -- and those of settling
+    -- the replies that were told: those that OSC told, those left in the ring, the one that was
+    -- held and those of settling
     abbrev told : List Reply
     told =
         h.osc.told ++ (rings.replies ++ (option_to_list t.audio.ends.rings.held ++ st.replies))

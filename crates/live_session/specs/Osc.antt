@@ -1,8 +1,8 @@
 -- The activity of OSC goes on from what it was given to what it gives back: packets were received
--- and heard, the pings among them were answered, and the replies that it took were told, each to its
--- return address. One packet more was received and not heard only where there was no memory for it.
--- It may have ended with a reply that has no return address. Else it asked at least once: a packet
--- came, or a receive failed or gave nothing for now, or the link is at its end.
+-- and heard, the pings among them were answered, and the replies that it took were told, each to
+-- its return address. One packet more was received and not heard only where there was no memory for
+-- it. It may have ended with a reply that has no return address. Else it asked at least once: a
+-- packet came, or a receive failed or gave nothing for now, or the link is at its end.
 -- "The activities of a session" in docs/rules.md.
 use Rattle.std.specs.Prelude.{◌≡◌, ◌≤◌, ℕ, Bool, false, List, [], ◌++◌, length, flat_map, Option, None, IfSome, option_to_list}
 use Rattle.sl_commands.specs.declared.Reply.{Reply}

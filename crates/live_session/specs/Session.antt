@@ -1,6 +1,6 @@
--- The four activities of a session run over five rings, each from what it was given to what it gives
--- back. No promise of one speaks of another. Once all have returned, the two ends of each ring meet:
--- what was sent is what was taken, followed by what is left.
+-- The four activities of a session run over five rings, each from what it was given to what it
+-- gives back. No promise of one speaks of another. Once all have returned, the two ends of each
+-- ring meet: what was sent is what was taken, followed by what is left.
 -- "The activities of a session" in docs/rules.md.
 use Rattle.std.specs.Prelude.{◌≡◌, ℕ, ◌*◌, Bool, false, List, [], ◌++◌, length, None, option_to_list}
 use Rattle.sl_commands.specs.declared.Reply.{Reply}
@@ -88,8 +88,8 @@ abbrev pub unsettled_of : {P : Type 0} → SessionOf P → List Reply → Unsett
 unsettled_of s told =
     unsettled s.audio.engine s.audio.ends.rings.held s.saver.saving s.saver.keeper s.saver.held told
 
--- the replies that settling tells: those left in their ring, the one that audio held, and those that
--- come of what is settled
+-- the replies that settling tells: those left in their ring, the one that audio held, and those
+-- that come of what is settled
 abbrev pub told_behind : {P : Type 0} → SessionOf P → LeftOf → List Reply → List Reply
 told_behind s rings replies =
     rings.replies ++ (option_to_list s.audio.ends.rings.held ++ replies)

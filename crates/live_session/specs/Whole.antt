@@ -1,12 +1,12 @@
 -- What holds of a whole session, by the frames that were read and the journal.
 -- - The journal is stamped and valid, and no entry stands behind the last frame.
--- - Each accepted command of OSC and of MIDI stands in it once, in its sender's order, and each save
---   has one release, in the order of the saves, behind its save.
+-- - Each accepted command of OSC and of MIDI stands in it once, in its sender's order, and each
+--   save has one release, in the order of the saves, behind its save.
 -- - What OSC accepted comes of the packets that were received, and what MIDI accepted of the bytes
 --   that were read.
--- - The frames are those of the bytes of the audio source, and fewer bytes than a frame has are left
---   over. The bytes of the run's output were written, or a first part of them where a write failed.
---   The audio ended for its reason.
+-- - The frames are those of the bytes of the audio source, and fewer bytes than a frame has are
+--   left over. The bytes of the run's output were written, or a first part of them where a write
+--   failed. The audio ended for its reason.
 -- - The replies that were told are those of the run, each to its return address. What was sent is a
 --   merge of them and of the answers to pings, each in its order, but for what is counted as not
 --   sent.
@@ -168,8 +168,8 @@ pub record OutsideOf (P : Type 0) : Type 0 where
   pub link : LinkSeen
   pub midi : SourceSeen
 
--- what a session gives back beside it: the journal, both accounts, how many frames are done, and how
--- often a loop refused something
+-- what a session gives back beside it: the journal, both accounts, how many frames are done, and
+-- how often a loop refused something
 pub record GivenOf : Type 0 where
   pub journal : List Entry
   pub osc : Account

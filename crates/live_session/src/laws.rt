@@ -30,8 +30,8 @@ pub fn a_session_that_has_met_may_be_settled<P: Keeper>()
 {}
 
 /// Each reply has a return address: those that OSC took, so that none was strange, and those that
-/// are told by settling. For only OSC asks, and each of its commands that asks was accepted with its
-/// address.
+/// are told by settling. For only OSC asks, and each of its commands that asks was accepted with
+/// its address.
 pub fn each_reply_of_a_session_has_a_return_address<P: Keeper>()
     ensures strange { (b : Beginning) → (bindings : List Binding) → (s t : SessionOf P) →
         (state : AudioState) → (memory : Bool) → (m : MetRings) →

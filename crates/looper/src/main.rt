@@ -1,5 +1,5 @@
-//! `looper`: the program. It hands its words to `looper_cli` over the working directory and standard
-//! output, and for a live session over the real devices (`live`).
+//! `looper`: the program. It hands its words to `looper_cli` over the working directory and
+//! standard output, and for a live session over the real devices (`live`).
 #![tactic(auto)]
 
 mod account;
@@ -111,7 +111,8 @@ fn print<R: Print + Eprint + Alloc<A = Global>>(rt: &R, text: &str) -> u8 {
     status.number()
 }
 
-/// Runs the words over files and a console, and says what failed. The devices of a session are none.
+/// Runs the words over files and a console, and says what failed. The devices of a session are
+/// none.
 fn plain<C: Print + Drop + Send, R: Wait + Clock + Threads + Sync>(
     host: &HostRuntime,
     rt: &R,

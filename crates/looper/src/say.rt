@@ -1,5 +1,5 @@
-//! What the program says on standard error beside its own lines, each behind its name. Where there is
-//! no memory or no such stream, nothing is said.
+//! What the program says on standard error beside its own lines, each behind its name. Where there
+//! is no memory or no such stream, nothing is said.
 
 use sl_ports::{DirKeeper, StdSink};
 use std::alloc::Global;

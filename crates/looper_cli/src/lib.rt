@@ -13,9 +13,10 @@
 //!   file.
 //! - `show` loads a session, and gives the text that tells of its loops. It writes nothing.
 //!
-//! Begin with `top`, then `render`; `program` has the call of the program, `run`, which plays a live
-//! session or hands its words to `plain_run`. The forms are "The words of the command line", "The
-//! console" and "Statuses" in docs/formats.md, and what is heard is "The run" in docs/rules.md.
+//! Begin with `top`, then `render`; `program` has the call of the program, `run`, which plays a
+//! live session or hands its words to `plain_run`. The forms are "The words of the command line",
+//! "The console" and "Statuses" in docs/formats.md, and what is heard is "The run" in
+//! docs/rules.md.
 #![tactic(auto)]
 
 mod drill;

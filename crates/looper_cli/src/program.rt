@@ -42,8 +42,8 @@ fn run_plain<P: Keeper, A: Source, O: Sink, L: Link, M: Source, C: Sink>(
     }
 }
 
-/// Runs the words over what stands outside, and gives it back with the exit status: `live_run` where
-/// the first word is `live`, and else `plain_run`.
+/// Runs the words over what stands outside, and gives it back with the exit status: `live_run`
+/// where the first word is `live`, and else `plain_run`.
 pub fn run<
     P: Keeper + Send,
     A: Source + Send,

@@ -69,11 +69,14 @@ pub fault_reads :
     OnlyReads k old new (is_unloaded {A = RunFiles} (Err fault))
     → IsFaultOf fault told → OnlyReads k old new (is_unread {A = RunFiles} (Err told))
 fault_reads k old new (BadFile at kind line) told reads is =
-    subst (λ (t : FilesFault). OnlyReads k old new (is_unread {A = RunFiles} (Err t))) (sym is) reads
+    subst (λ (t : FilesFault). OnlyReads k old new (is_unread {A = RunFiles} (Err t))) (sym is)
+        reads
 fault_reads k old new Unread told reads is =
-    subst (λ (t : FilesFault). OnlyReads k old new (is_unread {A = RunFiles} (Err t))) (sym is) reads
+    subst (λ (t : FilesFault). OnlyReads k old new (is_unread {A = RunFiles} (Err t))) (sym is)
+        reads
 fault_reads k old new NoMemory told reads is =
-    subst (λ (t : FilesFault). OnlyReads k old new (is_unread {A = RunFiles} (Err t))) (sym is) reads
+    subst (λ (t : FilesFault). OnlyReads k old new (is_unread {A = RunFiles} (Err t))) (sym is)
+        reads
 
 pub fault_value :
     (files : Option Files) (n : Named) (fault : LoadFault) (told : FilesFault) →
@@ -251,7 +254,8 @@ within_or_beyond chunks count lists within (too_long more) = let most = within.f
 within_or_beyond chunks count lists within (too_few_chunks more) = let most = within.chunks in
     absurd (omega (arith, most, more))
 
-pub run_or_limit : (files : Files) (n : Named) (t : Contents) → IsNamed n → IsRunOf (Some files) n t →
+pub run_or_limit : (files : Files) (n : Named) (t : Contents) → IsNamed n → IsRunOf (Some files) n t
+    →
     ExceedsLimit (Some files) n → ⊥
 run_or_limit files n t named is beyond =
     let same = one_run files n beyond.contents t named beyond.holds is.holds in

@@ -168,7 +168,8 @@ module _ {P : Type 0} (k : Keeper P) (rate : ℕ) where
   block_may saving after old new blocks blocks' releases held held' answer none gave ring took m =
       let may = took.next.may in
       let kept = one_kept k rate took.block saving after old new answer took.accepts in
-      let come = comes_behind k rate blocks.bound blocks.taken (took.block ∷ []) m.saves saving after
+      let come = comes_behind k rate blocks.bound blocks.taken (took.block ∷ []) m.saves saving
+          after
       old new (outcome_in answer) m.come
       (and_from (may_follow blocks.taken took.block blocks.bound) true may refl) kept in
       let below = follower_below blocks.taken took.block blocks.bound m.saves saving m.come may in

@@ -38,8 +38,9 @@ pub record MayServe {P : Type 0} (s : ServingOf P) : Type 0 where
   pub limit : s.blocks.bound ≤ s.releases.limit
   pub outcome : (o : ℕ) → s.held ≡ Some o → IsTrue (is_outcome o)
 
--- what the activity did, from what it had to what it has: the blocks that it took were accepted, and
--- the outcomes that they gave come behind the one that was held, in order; the last may be held now
+-- what the activity did, from what it had to what it has: the blocks that it took were accepted,
+-- and the outcomes that they gave come behind the one that was held, in order; the last may be held
+-- now
 pub record SaverDid {P : Type 0} (k : Keeper P) (rate : ℕ) (s t : ServingOf P) : Type 0 where
   pub taken : List Block
   pub outs : List ℕ

@@ -135,7 +135,8 @@ module _ {P : Type 0} (k : Keeper P) (rate : ℕ) where
             f.goes;
         each = omega arith;
         saves = x.saves + length f.outcomes;
-        come = comes_behind k rate bound fed bs x.saves s.saving t.saving s.keeper t.keeper f.outcomes
+        come = comes_behind k rate bound fed bs x.saves s.saving t.saving s.keeper t.keeper
+            f.outcomes
             x.come follow f.keeps;
       }
 
@@ -247,7 +248,8 @@ next_follows e saving b sent x next =
     let stands = x.stands.stands in
     let s = stands.step in
     subst (λ l. IsTrue (may_follow l b (2 * e.journal.quota))) x.stands.blocks_are
-    (block_follows s.0 s.1 s.2 e p e.journal.quota (2 * e.journal.quota) b s.3 stands.osc stands.midi
+    (block_follows s.0 s.1 s.2 e p e.journal.quota (2 * e.journal.quota) b s.3 stands.osc
+        stands.midi
     (omega arith) next)
 
 -- behind it the engine stands behind one block more, and it may be fed
@@ -262,7 +264,8 @@ next_feeds e next saving b sent x is now =
       served = record {
         outcomes = x.outcomes;
         stands = subst (λ l. StandsBehind next l (sent ++ b ∷ [])) (append-nil x.outcomes)
-            (stands_behind e next x.outcomes [] sent (b ∷ []) [] x.stands (block_by b e next is now));
+            (stands_behind e next x.outcomes [] sent (b ∷ []) [] x.stands (block_by b e next is
+                now));
         each = x.each;
         saves = x.saves;
         come = x.come;

@@ -1,9 +1,9 @@
--- Settling ends a session, once its four activities have returned and the two ends of each ring have
--- met. Replies that are left in their ring are told, and then the one that is held. The engine takes
--- the commands of OSC and of MIDI that are left, and the outcomes that are left, with the one that
--- is held behind them. The saver gets the blocks that are left in their ring, and behind them those
--- that the engine has left, and the engine the outcome of each save that ends in them. Each reply is
--- told as it comes. Nothing is left then, and each save has its release.
+-- Settling ends a session, once its four activities have returned and the two ends of each ring
+-- have met. Replies that are left in their ring are told, and then the one that is held. The engine
+-- takes the commands of OSC and of MIDI that are left, and the outcomes that are left, with the one
+-- that is held behind them. The saver gets the blocks that are left in their ring, and behind them
+-- those that the engine has left, and the engine the outcome of each save that ends in them. Each
+-- reply is told as it comes. Nothing is left then, and each save has its release.
 -- "Settling" in docs/rules.md.
 use Rattle.std.specs.Prelude.{◌≡◌, ◌≤◌, ℕ, ◌+◌, List, [], ◌++◌, length, Option, Some, option_to_list, IsTrue}
 use Rattle.sl_commands.specs.declared.Block.{Block}
@@ -20,8 +20,9 @@ use Rattle.live_steps.specs.InStep.{AreInSomeStep}
 use Rattle.live_goes.specs.Going.{Goes}
 use Rattle.live_rings.specs.declared.meeting.MetRings.{MetRings}
 
--- what the activities gave back beside the rings: the engine and the reply that audio held, the save
--- underway, the keeper and the outcome that the saver held, and the replies that were told before
+-- what the activities gave back beside the rings: the engine and the reply that audio held, the
+-- save underway, the keeper and the outcome that the saver held, and the replies that were told
+-- before
 pub record UnsettledOf (P : Type 0) : Type 0 where
   pub engine : EngineOf
   pub reply : Option Reply

@@ -47,8 +47,8 @@ pub record MayRelease (e : EngineOf) (m : BothEnds ℕ) : Type 0 where
   pub stands : StandsBehind e m.taken blocks
   pub few : length m.sent ≤ ends_in blocks
 
--- the saver is where the blocks lead that it was fed, of those that were sent, and the engine has the
--- outcome of each save that ended in them
+-- the saver is where the blocks lead that it was fed, of those that were sent, and the engine has
+-- the outcome of each save that ended in them
 pub record IsServed (e : EngineOf) (saving : Option SavingOf) (fed sent : List Block) : Type 0 where
   pub outcomes : List ℕ
   pub stands : StandsBehind e outcomes sent
@@ -56,7 +56,8 @@ pub record IsServed (e : EngineOf) (saving : Option SavingOf) (fed sent : List B
   pub saves : ℕ
   pub come : HasCome saving fed saves
 
--- a block may be fed: it follows those that were, and if a save ends in it, its outcome is owed then
+-- a block may be fed: it follows those that were, and if a save ends in it, its outcome is owed
+-- then
 pub record MayFeed (e : EngineOf) (saving : Option SavingOf) (b : Block) : Type 0 where
   pub fed : List Block
   pub sent : List Block

@@ -1,5 +1,5 @@
--- Each part of settling says how the engine went on, with which replies, and what the saver kept. Such
--- parts compose.
+-- Each part of settling says how the engine went on, with which replies, and what the saver kept.
+-- Such parts compose.
 -- "Settling" in docs/rules.md.
 use Rattle.std.specs.Prelude.{◌≡◌, ℕ, zero, suc, List, ◌++◌, Option, option_to_list}
 use Rattle.sl_commands.specs.declared.Block.{Block}

@@ -1,23 +1,30 @@
-//! Reads what comes from outside and tells what it says, or its first fault: one line of output for each line of input.
+//! Reads what comes from outside and tells what it says, or its first fault: one line of output for
+//! each line of input.
 //!
 //! ```text
-//! journal LOOPS HEX           the number of entries of a journal, which is written again and compared
-//! session - HEX               whether a text is one of a session, which is written again and compared
+//! journal LOOPS HEX           the number of entries of a journal, which is written again
+//!                             and compared
+//! session - HEX               whether a text is one of a session, which is written again
+//!                             and compared
 //! wav - HEX                   the form and the frames of a WAV file
 //! packet HEX                  the messages of an OSC packet
 //! asked LOOPS IP PORT HEX     what each message of a packet from there asks for
 //! url IP PORT HEX             the return address that a url gives to a packet from there
-//! write HEX ARG ..            the bytes of a message with this address; an ARG is i and a number, or s and HEX
+//! write HEX ARG ..            the bytes of a message with this address; an ARG is i and a number,
+//!                             or s and HEX
 //! midi HEX                    the events of MIDI bytes, each with the place of its last byte
 //! stream HEX                  the same without the places
 //! bindings LOOPS HEX          the bindings of a text, as they are written, or its first fault
 //! looked LOOPS HEX HEX        the commands that MIDI bytes give by the bindings of a text
-//! account osc QUOTA CAPACITY LOOPS IP PORT STEP ..    what a sender of OSC decides of packets, HEX each, and its account
-//! account midi QUOTA CAPACITY LOOPS HEX STEP ..       the same of MIDI bytes, by the bindings of a text
+//! account osc QUOTA CAPACITY LOOPS IP PORT STEP ..
+//!                             what a sender of OSC decides of packets, HEX each, and its account
+//! account midi QUOTA CAPACITY LOOPS HEX STEP ..
+//!                             the same of MIDI bytes, by the bindings of a text
 //! ```
 //!
-//! HEX are bytes in hexadecimal digits, IP is an address as one number. With the words `journal LOOPS FILE`, `session - FILE` or
-//! `wav - FILE` the program reads that file in place of standard input, and tells how many entries or frames it has.
+//! HEX are bytes in hexadecimal digits, IP is an address as one number. With the words `journal
+//! LOOPS FILE`, `session - FILE` or `wav - FILE` the program reads that file in place of standard
+//! input, and tells how many entries or frames it has.
 #![tactic(auto)]
 
 mod hex;

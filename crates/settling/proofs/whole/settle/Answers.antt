@@ -63,7 +63,8 @@ returns-clause-settled g c =
           (took.0 ++ (ring.3 ++ rest.1)) c.tell_some.ensures
           (more c.tell_some.new.teller c.take_left.new.teller last took.0 (ring.3 ++ rest.1) took.1
           (more c.take_left.new.teller c.feed_ring.new.teller last ring.3 rest.1 ring.4 rest.2))),
-      settled_from g.P.Keeper c.args.saver.now.rate s left c.take_left.new.engine took.0 ring.3 rest.1
+      settled_from g.P.Keeper c.args.saver.now.rate s left c.take_left.new.engine took.0 ring.3
+          rest.1
           u v rest.0 took.2.goes ring.5
           (subst (λ r. Fed g.P.Keeper r rest.0 rest.0 rest.1 u
           (feeding v.engine v.saving v.keeper)) c.feed_ring.ensures.rate rest.3)
