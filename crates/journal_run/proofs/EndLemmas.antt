@@ -231,7 +231,7 @@ silent_spelled input p channels bits most is channels_is bits_is = record {
 pub performs :
     {P : Type 0} (k : Keeper P) (es : List Entry) (input : InputOf) (l : Looper) (start now : P)
     (r : RunOf) (p : Performed) (u : Unit {0}) → p.out.items ≡ r.out → string_bytes p.text ≡ r.text
-        →
+    →
     EndsRun k es input l start now r (Ok u) → Performs k es input l start now (Ok p)
 performs k es input l start now r p u out text ended = (
   out ∙ ended.0,

@@ -54,10 +54,10 @@ entered_before e m next same h =
 pub turned : (e m k next : EngineOf) (old last : AudioEnds) (b : RingEnds) (s t : SourceSeen)
     (o u : SinkSeen) (taken : Stops) (blocks : Stop) (p : Played) (done : Bool)
     (state : AudioState) → MayTurn e old.rings → IsReady old → Takes e m old.rings b → Causes e
-        old.rings b taken →
+    old.rings b taken →
     Plays old.channels old.most m k s t o u old.rest.items last.rest.items p →
     last.channels ≡ old.channels → last.most ≡ old.most → Stays k next b last.rings → next.journal ≡
-        k.journal →
+    k.journal →
     BlockCause next b last.rings blocks → done ≡ nat_le max_session_frames next.frames →
     state ≡ state_of p.halt p.answer (length last.rest.items) last.rings.quit done →
     Turned (record { engine = e; ends = old; source = s; sink = o })
@@ -154,6 +154,6 @@ turned_over e m k next old last b now s t o u taken blocks p done state may read
     same
     size rings stays journal cause all is =
     turned e m k next old last b s t o u taken blocks p done state may ready takes causes plays same
-        size
+    size
     (subst (λ r. Stays k next r last.rings) rings stays) journal
     (subst (λ r. BlockCause next r last.rings blocks) rings cause) all is

@@ -107,7 +107,7 @@ one_file_fault files name loops kind line kind_too line_too few
 pub one_bound :
     (files : Files) (bind : Option (List ℕ)) (loops : ℕ) (bs cs : List Binding) →
     loops ≤ max_loops → Binds (Some files) bind loops bs → Binds (Some files) bind loops cs → bs ≡
-        cs
+    cs
 one_bound files None loops bs cs few first second = first ∙ sym second
 one_bound files (Some bind) loops bs cs few first second =
     one_file files bind loops bs cs few first second

@@ -108,13 +108,13 @@ pub fault_reads :
     → IsFaultOf fault told → OnlyReads k old new (is_unread {A = LiveFiles} (Err told))
 fault_reads k old new (BadFile at kind line) told reads is =
     subst (λ (t : FilesFault). OnlyReads k old new (is_unread {A = LiveFiles} (Err t))) (sym is)
-        reads
+    reads
 fault_reads k old new Unread told reads is =
     subst (λ (t : FilesFault). OnlyReads k old new (is_unread {A = LiveFiles} (Err t))) (sym is)
-        reads
+    reads
 fault_reads k old new NoMemory told reads is =
     subst (λ (t : FilesFault). OnlyReads k old new (is_unread {A = LiveFiles} (Err t))) (sym is)
-        reads
+    reads
 
 pub fault_value :
     (files : Option Files) (n : LiveNamed) (fault : LoadFault) (told : FilesFault) →
@@ -146,7 +146,7 @@ pub live_or_bad : (files : Files) (n : LiveNamed) (t : LiveContents) (name : Lis
     IsLiveNamed n → HoldsLive (Some files) n t → FirstBadLive (Some files) n name kind line → ⊥
 live_or_bad files n t name kind line named holds (bad_session first) =
     begins_or_bad files n.session n.rate n.loops t.settings t.lists name kind line holds.begins
-        first
+    first
 live_or_bad files n t name kind line named holds (bad_bindings settings lists begins first) =
     let same = one_beginning files n.session n.rate n.loops t.settings settings t.lists lists
     holds.begins begins in

@@ -149,5 +149,11 @@ goes_block block e next =
 pub held_joins : (e : EngineOf) (p : Passed) → StayInStep e p e (put_held p)
 held_joins e p =
     held_step e p (put_held p)
-    (record { osc = refl; midi = refl; saver = refl; blocks = refl; replies = append-nil
-        (all_replies p) })
+    (record {
+      osc = refl;
+      midi = refl;
+      saver = refl;
+      blocks = refl;
+      replies = append-nil
+          (all_replies p);
+    })

@@ -62,14 +62,14 @@ module _ {P : Type 0} (k : Keeper P) (x : LiveAsked) (old new : P) where
     λ other more number bad. inl refl,
     λ beyond. absurd (live_or_bad files (named_in x) beyond.contents name kind line named
         beyond.holds (subst (λ (fs : Option Files). FirstBadLive fs (named_in x) name kind line)
-            told
+        told
         why)),
   )
   fault_bad Limit files named told why = (
     λ name kind line bad.
         let beyond = subst (λ (fs : Option Files). ExceedsLive fs (named_in x)) told why in
         absurd (live_or_bad files (named_in x) beyond.contents name kind line named beyond.holds
-            bad),
+        bad),
     λ beyond. inl refl,
   )
   fault_bad Reading files named told why =

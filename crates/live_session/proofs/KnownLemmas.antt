@@ -72,7 +72,7 @@ pub run_made : (b : Beginning) (es : List Entry) (input : List Sound) →
     AllByRecursion IsMade (run es input (first_looper b)).saves
 run_made b es input is =
     subst (λ (r : Ran). AllByRecursion IsMade r.saves) (sym (run-run_from es input (first_looper
-        b)))
+    b)))
     (run_from-made 0 es input (first_looper b) (begins b.settings b.chunks b.initial is))
 
 module _ (b : Beginning) (input output : List Sound) (e : EngineOf) (p : Passed)

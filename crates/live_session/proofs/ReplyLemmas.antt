@@ -185,7 +185,7 @@ address_of loops accepted r c own good asked at =
     let has : has_return at.one.answer ≡ true =
     is_good.returns ∙ ap asks at.command ∙ asked in
     subst (λ (s : ℕ). is_some (if s == 0 then answer_of (slice_get accepted r.seq) else None) ≡
-        true)
+    true)
     (sym own)
     (subst (λ (o : Option Accepted). is_some (answer_of o) ≡ true) (sym at.there)
     (returns_some at.one.answer has))

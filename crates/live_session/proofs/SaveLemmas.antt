@@ -56,7 +56,7 @@ entered_strips : (n frame : ℕ) (es : List Entry) (l : Looper) → HasLoops n l
 entered_strips n frame [] l has = tt
 entered_strips n frame (e ∷ es) l has =
     all_append (HasStrips n) (option_to_list (save e l)) (entered frame es (applied frame e
-        l)).saves
+    l)).saves
     (made_strips n e l (save e l) has refl)
     (entered_strips n frame es (applied frame e l) (applied-has_loops n frame e l has))
 

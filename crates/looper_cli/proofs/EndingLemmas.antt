@@ -28,8 +28,12 @@ told_done :
     ((bytes : List ℕ) → Said bytes → Told bytes) →
     IsDone asked before after Said → IsDone asked before after Told
 told_done (renders r) before after Said Told tells done =
-    record { contents = done.contents; run = done.run; files = done.files; text = tells _ done.text
-        }
+    record {
+      contents = done.contents;
+      run = done.run;
+      files = done.files;
+      text = tells _ done.text;
+    }
 told_done (drills d) before after Said Told tells done = (tells _ done.0, done.1)
 told_done (shows session) before after Said Told tells done = (
   record {
@@ -139,7 +143,7 @@ unwritten_has_no_bad_file :
 unwritten_has_no_bad_file k (renders r) old new files name kind line named told cannot bad =
     run_or_bad files (named_of r) cannot.first.contents name kind line named
     (subst (λ before. IsRunOf before (named_of r) cannot.first.contents) told
-        cannot.first.run).holds
+    cannot.first.run).holds
     bad
 unwritten_has_no_bad_file k (drills d) old new files name kind line named told cannot bad = bad
 unwritten_has_no_bad_file k (shows session) old new files name kind line named told cannot bad =
@@ -173,7 +177,7 @@ unwritten_is_within :
 unwritten_is_within k (renders r) old new files named told cannot beyond =
     run_or_limit files (named_of r) cannot.first.contents named
     (subst (λ before. IsRunOf before (named_of r) cannot.first.contents) told cannot.first.run)
-        beyond
+    beyond
 unwritten_is_within k (drills d) old new files named told cannot beyond = beyond
 unwritten_is_within k (shows session) old new files named told cannot beyond = beyond
 

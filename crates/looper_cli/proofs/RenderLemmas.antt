@@ -87,7 +87,7 @@ pub played_so :
     {P : Type 0} (k : Keeper P) (r : RenderAsked) (t : Contents) (mid new : P) (es : List Entry)
     (chunks : ℕ) (answer : Result Performed Stopped) → es ≡ t.entries →
     chunks ≡ r.chunks → Performs k es (input_of t) (start t.settings chunks t.lists) mid new answer
-        →
+    →
     Performs k t.entries (input_of t) (looper_of r t) mid new answer
 played_so k r t mid new es chunks answer same count plays =
     subst (λ (l : List Entry). Performs k l (input_of t) (looper_of r t) mid new answer) same
@@ -134,7 +134,7 @@ untold_fails k r n t old mid new p same reads is plays =
 -- all files of a run, where OUT comes behind those of its saves
 out_comes_last :
     (r : RenderAsked) (t : Contents) (old mid played new : Option Files) (bytes : List ℕ) → mid ≡
-        old →
+    old →
     played ≡ put_all (saved_by t.entries (input_of t) (looper_of r t)) mid →
     bytes ≡ (out_file r t).bytes → new ≡ put_told played r.out bytes →
     new ≡ put_all (files_of_run r t) old
@@ -147,7 +147,7 @@ out_comes_last r t old mid played new bytes same saved made written =
 -- a run whose files are all written is done, and its text is told
 pub run_is_done :
     {P : Type 0} (k : Keeper P) (r : RenderAsked) (n : Named) (t : Contents) (old mid played new :
-        P)
+    P)
     (p : Performed) (bytes text : List ℕ) → n ≡ named_of r →
     OnlyReads k old mid false → IsRunOf (k.files old) n t →
     Performs k t.entries (input_of t) (looper_of r t) mid played (gave p) →
@@ -166,7 +166,7 @@ run_is_done k r n t old mid played new p bytes text same reads is plays bytes_ar
 -- where OUT can't be written, it is left
 pub out_is_left :
     {P : Type 0} (k : Keeper P) (r : RenderAsked) (n : Named) (t : Contents) (old mid played new :
-        P)
+    P)
     (p : Performed) → n ≡ named_of r →
     OnlyReads k old mid false → IsRunOf (k.files old) n t →
     Performs k t.entries (input_of t) (looper_of r t) mid played (gave p) →

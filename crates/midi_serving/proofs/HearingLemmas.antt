@@ -76,7 +76,7 @@ heard_joined xs ys a b c x y =
                 (subst (λ k. Hears k (bytes_inputs a.bindings (before ++ xs) ys) b.account.tally
                 c.account.tally next.0) x.stays.ring.capacity
                 (subst (λ k. Hears b.ring.capacity (bytes_inputs k (before ++ xs) ys)
-                    b.account.tally
+                b.account.tally
                 c.account.tally next.0) x.stays.bindings next.1))),
           ));
     }

@@ -70,13 +70,13 @@ pub fault_reads :
     → IsFaultOf fault told → OnlyReads k old new (is_unread {A = RunFiles} (Err told))
 fault_reads k old new (BadFile at kind line) told reads is =
     subst (λ (t : FilesFault). OnlyReads k old new (is_unread {A = RunFiles} (Err t))) (sym is)
-        reads
+    reads
 fault_reads k old new Unread told reads is =
     subst (λ (t : FilesFault). OnlyReads k old new (is_unread {A = RunFiles} (Err t))) (sym is)
-        reads
+    reads
 fault_reads k old new NoMemory told reads is =
     subst (λ (t : FilesFault). OnlyReads k old new (is_unread {A = RunFiles} (Err t))) (sym is)
-        reads
+    reads
 
 pub fault_value :
     (files : Option Files) (n : Named) (fault : LoadFault) (told : FilesFault) →

@@ -169,7 +169,7 @@ module _ {P : Type 0} (k : Keeper P) (rate : ℕ) where
       let may = took.next.may in
       let kept = one_kept k rate took.block saving after old new answer took.accepts in
       let come = comes_behind k rate blocks.bound blocks.taken (took.block ∷ []) m.saves saving
-          after
+      after
       old new (outcome_in answer) m.come
       (and_from (may_follow blocks.taken took.block blocks.bound) true may refl) kept in
       let below = follower_below blocks.taken took.block blocks.bound m.saves saving m.come may in

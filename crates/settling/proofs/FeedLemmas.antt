@@ -249,7 +249,7 @@ next_follows e saving b sent x next =
     let s = stands.step in
     subst (λ l. IsTrue (may_follow l b (2 * e.journal.quota))) x.stands.blocks_are
     (block_follows s.0 s.1 s.2 e p e.journal.quota (2 * e.journal.quota) b s.3 stands.osc
-        stands.midi
+    stands.midi
     (omega arith) next)
 
 -- behind it the engine stands behind one block more, and it may be fed
@@ -265,7 +265,7 @@ next_feeds e next saving b sent x is now =
         outcomes = x.outcomes;
         stands = subst (λ l. StandsBehind next l (sent ++ b ∷ [])) (append-nil x.outcomes)
             (stands_behind e next x.outcomes [] sent (b ∷ []) [] x.stands (block_by b e next is
-                now));
+            now));
         each = x.each;
         saves = x.saves;
         come = x.come;

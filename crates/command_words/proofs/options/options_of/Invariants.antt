@@ -7,7 +7,7 @@ use Rattle.command_words.proofs.options.options_of.Given as goal
 abbrev pub invariant-options : goal.invariant-options
 invariant-options g l =
     (options_in g.O.Options.with_option (map string_bytes (drop l.at l.words)) l.options ≡
-        options_in
+    options_in
     g.O.Options.with_option (map string_bytes l.words) l.fn.none) × (l.at ≤ length l.words)
 
 abbrev pub decreases-options : goal.decreases-options

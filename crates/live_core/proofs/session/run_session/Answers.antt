@@ -22,7 +22,7 @@ close-requires g c =
     let back = c.run-back.result in
     same_rings g.P.Keeper (beginning_of c.args.setup.now c.args.initial.now) c.args.bindings
     (session_of g.A.Source g.O.Sink g.L.Link g.M.Source parts.audio parts.osc parts.midi
-        parts.saver)
+    parts.saver)
     (session_back g.A.Source g.O.Sink g.L.Link g.M.Source back) back.three.two.audio.state
     (lacked_memory back.three.two.osc.ended)
     (c.run-back.ensures.ran (beginning_of c.args.setup.now c.args.initial.now) c.args.bindings

@@ -10,7 +10,7 @@ returns g c s initial bindings channels h =
     record {
       made = is_made s initial bindings channels p h d.keeper (g.A.Source.seen d.audio)
           (g.O.Sink.faults d.out) (g.O.Sink.held d.out) (g.L.Link.seen d.link) (g.M.Source.seen
-              d.midi);
+          d.midi);
       audio = record {
         may = may_go_on s initial bindings channels p h (g.A.Source.seen d.audio) (g.O.Sink.faults
             d.out)

@@ -9,8 +9,8 @@ bytes-preserved g c =
     let b = get_or c.args.bytes.now c.bytes.place 0 in
     let n = c.byte-decision.new.self in
     subst (λ l. HearsBytes l c.args.sender.now n) (sym (take_more c.args.bytes.now c.bytes.place 0
-        c.bytes-test.true))
+    c.bytes-test.true))
     (heard_joined (take c.bytes.place c.args.bytes.now) (b ∷ []) c.args.sender.now c.bytes.sender n
-        c.bytes.invariant
+    c.bytes.invariant
     (heard_one b c.bytes.sender n (option_to_list c.byte-decision.result)
-        c.byte-decision.ensures.stays c.byte-decision.ensures.fed c.byte-decision.ensures.heard))
+    c.byte-decision.ensures.stays c.byte-decision.ensures.fed c.byte-decision.ensures.heard))

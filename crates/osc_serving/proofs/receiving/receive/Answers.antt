@@ -15,7 +15,7 @@ returns-in-Ok g c =
     let did = c.in-Got.ensures.did in
     let p = packet c.in-Got.from (take c.in-Got.count c.recv.new.buf) in
     let posted = subst (λ (ds : List Decision). PostedPongs ds l' l'' c.packet.new.self
-        c.send_pongs.new.sender) c.as_slice.ensures c.send_pongs.ensures in
+    c.send_pongs.new.sender) c.as_slice.ensures c.send_pongs.ensures in
     record {
       packets = p ∷ [];
       went = went_packet (g.L.Link.seen c.args.link.now) l' l'' c.args.sender.now c.packet.new.self
@@ -37,7 +37,7 @@ returns-in-Err g c =
       p,
       subst (λ (s' : OscSenderOf). Receives [] (p ∷ []) l l' s s') (sym c.in-Err.ensures.unchanged)
           (went_received (p ∷ []) l l' s did.gives did.out did.sends did.receives.later
-              did.idles.later),
+          did.idles.later),
       did.receives.stayed refl,
     )
 

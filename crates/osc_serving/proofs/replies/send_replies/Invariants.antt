@@ -8,4 +8,4 @@ use Rattle.osc_serving.proofs.replies.send_replies.Given as goal
 abbrev pub invariant-replies : goal.invariant-replies
 invariant-replies g l = (over : TakeEnd ℕ) →
     TookReplies [] (osc_at (g.L.Link.seen l.fn.link) l.fn.sender l.fn.replies over) (osc_at
-        (g.L.Link.seen l.link) l.sender l.replies over)
+    (g.L.Link.seen l.link) l.sender l.replies over)

@@ -6,4 +6,4 @@ use Rattle.osc_serving.proofs.serving.serve_link.Given as goal
 abbrev pub invariant-turns : goal.invariant-turns
 invariant-turns g l =
     GoesOn (osc_at (g.L.Link.seen l.fn.link) l.fn.sender l.fn.replies l.fn.over) (osc_at
-        (g.L.Link.seen l.link) l.sender l.replies l.over)
+    (g.L.Link.seen l.link) l.sender l.replies l.over)

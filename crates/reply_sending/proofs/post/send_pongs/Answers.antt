@@ -17,6 +17,6 @@ decisions-preserved g c =
     let s'' = c.answer.new.sender in
     subst (λ (ds : List Decision). PostedPongs ds l l'' s s'')
     (sym (take_next c.args.decisions.now c.decisions.place d c.decisions-test.true
-        c.index-decisions-place.is))
+    c.index-decisions-place.is))
     (pongs_joined (take c.decisions.place c.args.decisions.now) (d ∷ []) l l' l'' s
-        c.decisions.sender s'' c.decisions.invariant c.answer.ensures)
+    c.decisions.sender s'' c.decisions.invariant c.answer.ensures)

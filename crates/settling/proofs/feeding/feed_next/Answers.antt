@@ -29,10 +29,10 @@ returns-clause-served g c =
       c.requires.served.0 ++ c.args.block.now ∷ [],
       next_served g.P.Keeper c.args.saver.now.rate c.args.engine.now c.args.block.now
           c.requires.served.0 gave.0 c.args.saver.now.saving c.args.keeper.now now
-              c.requires.served.1
+          c.requires.served.1
           c.requires.next
           (given_fed g.P.Keeper c.args.saver.now.rate c.args.block.now c.args.engine.now gave.0
           (feeding c.block_sent.new.self c.args.saver.now.saving c.args.keeper.now) now
-              c.requires.next
+          c.requires.next
           c.block_sent.ensures.sent gave.2),
     )

@@ -41,7 +41,7 @@ returns g c =
         more c.args.teller.now c.settle_commands-2.new.teller c.release_held.new.teller
             (osc.2 ++ midi.2) (outcomes.2 ++ held.0)
             (more c.args.teller.now c.settle_commands.new.teller c.settle_commands-2.new.teller
-                osc.2
+            osc.2
             midi.2 osc.3 midi.3)
             (more c.settle_commands-2.new.teller c.settle_outcomes.new.teller
             c.release_held.new.teller outcomes.2 held.0 outcomes.3 held.1),

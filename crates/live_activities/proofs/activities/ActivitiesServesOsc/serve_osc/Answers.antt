@@ -12,8 +12,8 @@ returns-clause-ran g c =
     let l = g.L.Link.seen c.args.link.now in
     let l' = g.L.Link.seen c.serve_osc.new.link in
     subst (λ (e : OscOver). OscRan (parts.osc_at l c.args.sender.now c.args.replies.now)
-        (parts.osc_at l' c.serve_osc.new.sender c.serve_osc.new.replies) (lacked_memory e))
+    (parts.osc_at l' c.serve_osc.new.sender c.serve_osc.new.replies) (lacked_memory e))
     (sym c.told_as.ensures)
     (osc_ran (osc_at l c.args.sender.now c.args.replies.now c.args.over.now) (osc_at l'
-        c.serve_osc.new.sender c.serve_osc.new.replies c.serve_osc.new.over) c.serve_osc.result
-        c.serve_osc.ensures)
+    c.serve_osc.new.sender c.serve_osc.new.replies c.serve_osc.new.over) c.serve_osc.result
+    c.serve_osc.ensures)
