@@ -43,9 +43,18 @@ fn midi_of<R: Files<File = File> + Net + Alloc<A = Global>>(
     }
 }
 
+/// The channels, in words.
+fn channels_of(asked: &Live) -> &'static str {
+    if asked.channels == 1 {
+        "1 channel"
+    } else {
+        "2 channels"
+    }
+}
+
 /// Says where packets are heard, and what is played.
 fn say_where<R: Alloc<A = Global> + Eprint>(rt: &R, asked: &Live, link: &UdpLink) {
-    let (channels, period) = (asked.channels, asked.period);
+    let (channels, period) = (channels_of(asked), asked.period);
     let Some(port) = link.port() else {
         return;
     };
@@ -55,13 +64,11 @@ fn say_where<R: Alloc<A = Global> + Eprint>(rt: &R, asked: &Live, link: &UdpLink
     };
     let text = if asked.session.is_some() {
         format!(in rt.alloc();
-            "OSC at {at} port {port}, {channels} channels at the session's rate, periods of {period}"
+            "OSC at {at} port {port}, {channels} at the session's rate, periods of {period}"
         )
     } else {
         let rate = asked.rate;
-        format!(in rt.alloc();
-            "OSC at {at} port {port}, {channels} channels at {rate}, periods of {period}"
-        )
+        format!(in rt.alloc(); "OSC at {at} port {port}, {channels} at {rate}, periods of {period}")
     };
     if let Ok(text) = text {
         say(rt, &text);

@@ -6,7 +6,7 @@ mod account;
 mod live;
 mod say;
 
-use command_words::{Words, words_of};
+use command_words::{Words, WordsFault, words_of};
 use console_lines::Status;
 use live_ports::{FileSource, StdSource, UdpLink};
 use live_run::Outside;
@@ -145,6 +145,7 @@ fn command<R: Wait + Clock + Threads + Sync>(host: &HostRuntime, rt: &R, words: 
     }
     match words_of(host.alloc(), words) {
         Ok(Words::Live(asked)) => live::play(host, rt, words, &asked),
+        Err(WordsFault::Memory) => Status::Memory.number(),
         _ if asks_for_live(words) => plain(host, rt, words, StdSink::new(host.stderr())),
         _ => plain(host, rt, words, StdSink::new(host)),
     }
