@@ -284,3 +284,60 @@ fn a_failing_write_ends_all_writing(rt: HostRuntime) -> Result<(), Fail> {
     ];
     end(&rt, rt.alloc(), &runs)
 }
+
+/// What a failing call makes of the phrase.
+fn failing() -> Run {
+    Run {
+        title: "reading the phrase's IN fails",
+        failing_reads: &[1],
+        status: 4,
+        console: b"status 4\n",
+        out: None,
+        ..phrase()
+    }
+}
+
+/// What a failing write of OUT makes of the phrase.
+fn failing_write() -> Run {
+    Run {
+        title: "writing the phrase's OUT fails",
+        failing_writes: &[1],
+        status: 5,
+        console: b"status 5\n",
+        out: None,
+        ..phrase()
+    }
+}
+
+#[test]
+fn each_call_of_a_recorded_phrase_fails(rt: HostRuntime) -> Result<(), Fail> {
+    let runs = [
+        failing(),
+        Run {
+            title: "reading the phrase's JOURNAL fails",
+            failing_reads: &[2],
+            ..failing()
+        },
+        failing_write(),
+        Run {
+            title: "reading the phrase's IN fails, and telling it fails too",
+            failing_texts: &[1],
+            console: b"",
+            ..failing()
+        },
+        Run {
+            title: "telling of the phrase fails",
+            failing_texts: &[1],
+            status: 5,
+            console: b"",
+            ..phrase()
+        },
+        Run {
+            title: "a third reading and a second write would fail",
+            failing_reads: &[3],
+            failing_writes: &[2],
+            ..phrase()
+        },
+    ];
+    end(&rt, rt.alloc(), &runs)
+}
