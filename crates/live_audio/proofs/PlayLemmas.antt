@@ -19,7 +19,7 @@ use Rattle.engine_steps.specs.Engines.{EngineOf, went_on, put_out}
 use Rattle.audio_ends.specs.declared.Halt.{Halt}
 use Rattle.audio_ends.specs.declared.Halt.TheVariants.{Whole}
 use Rattle.audio_ends.specs.Fills.{CameBehind, ReadsFrames, Halts}
-use Rattle.audio_ends.proofs.FillLemmas.{frames_read}
+use Rattle.audio_ends.proofs.FillLemmas.{or-false, frames_read}
 use Rattle.audio_ends.specs.Did.{SinkSeen}
 use Rattle.live_audio.specs.declared.play.Played.{Played}
 use Rattle.live_audio.specs.Plays.{Plays}
@@ -58,7 +58,12 @@ plays_nothing channels most e s o kept few some none =
         size = (let none : 0 * frame_size channels 16 ≡ 0 = omega arith in sym none);
         are = refl;
       };
-      halts = record { cause = refl; faults = omega arith; idles = omega arith };
+      halts = record {
+        cause = refl;
+        ended = sym (or-false s.ended);
+        faults = omega arith;
+        idles = omega arith;
+      };
       wrote = appends_none o.held;
       counts = record { later = omega arith; rose = λ is. absurd (cc); stayed = λ is. refl };
     }
