@@ -1,18 +1,12 @@
 //! The form of a live session: what it is given, and how it has to end.
 
-ghost use Rattle.std.specs.Prelude.{◌≡◌, ◌∷◌, [], List, length, IfOk};
-ghost use Rattle.sl_base.specs.Sounds.{Sound};
-ghost use Rattle.sl_commands.specs.declared.settings.StripSettings.{StripSettings};
-ghost use Rattle.looper_rules.specs.Reached.{AreLists};
-
-use frame_stamp::Journal;
-use live_activities::Activities;
-use live_core::{Devices, LiveEnd, LiveStatus, live_core};
-use live_ports::{MemLink, MemSource};
-use looper_engine::Setup;
-use midi_bindings::Bindings;
-use sl_base::{Addr, Frame, Frames, Name, widen};
-use sl_commands::{Globals, Initial, Settings, StripSettings, Strips};
+use crate::devices::{ScriptedKeeper, ScriptedLink, ScriptedSource};
+use crate::flags::Flags;
+use crate::scripts::{Script, Step};
+use live_ports::{Link, LinkAnswer, MemLink, MemSource, Source, SourceAnswer};
+use live_run::{End, Outside, Session, live_run};
+use sl_base::{Addr, Name};
+use sl_commands::Entry;
 use sl_ports::{MemKeeper, MemSink};
 use std::alloc::Global;
 use std::process::Abort;
@@ -22,263 +16,326 @@ use std::thread::Threads;
 use std::time::Clock;
 
 /// Where packets come from.
-pub const FROM: Addr = Addr {
+const FROM: Addr = Addr {
     ip: 2130706433,
     port: 9951,
 };
 
-/// A session of two loops of four frames over one channel, with periods of four frames: its audio,
-/// the packets that its link gives before it ends, and the numbers of the calls that fail. Then how
-/// it has to end.
-#[derive(Clone, Copy)]
-pub struct Session {
-    pub title: &'static str,
-    pub audio: &'static [u8],
-    pub packets: &'static [&'static [u8]],
-    pub failing_reads: &'static [u64],
-    pub failing_writes: &'static [u64],
-    pub failing_receives: &'static [u64],
-    pub failing_sends: &'static [u64],
-    pub failing_midi: &'static [u64],
-    pub failing_files: &'static [u64],
-    pub status: LiveStatus,
-    pub frames: u64,
-    /// How many bytes were written. They are those of silence.
-    pub written: usize,
-    /// The sender and the number of each entry of the journal.
-    pub entries: &'static [(u8, u32)],
-    pub sent: &'static [&'static [u8]],
-    pub unsent: u64,
-    /// The file a.wav at the end, or None where it isn't there.
-    pub file: Option<&'static [u8]>,
+/// The kinds of calls, each counted from 1.
+#[derive(Clone, Copy, PartialEq, Eq)]
+pub enum Call {
+    AudioRead,
+    AudioWrite,
+    Receive,
+    Send,
+    MidiRead,
+    FileRead,
+    FileWrite,
+    Tell,
 }
 
-/// A session without audio and packets.
-pub fn empty() -> Session {
-    Session {
+/// The first call of each device fails, which is the test's own where the session used none.
+pub const UNUSED: &[(Call, u64)] = &[
+    (Call::AudioRead, 1),
+    (Call::MidiRead, 1),
+    (Call::Receive, 1),
+];
+
+/// The steps of the devices.
+#[derive(Clone, Copy)]
+pub struct Steps {
+    pub audio: &'static [Step],
+    pub link: &'static [Step],
+    pub midi: &'static [Step],
+    pub keeper: &'static [Step],
+}
+
+/// A session: its words, the files that stand before it, what its devices give, each packet so many
+/// times, and the calls that fail. Then how it has to end.
+#[derive(Clone, Copy)]
+pub struct Case {
+    pub title: &'static str,
+    pub words: &'static [&'static str],
+    /// Words behind these.
+    pub more: &'static [&'static str],
+    pub given: &'static [(&'static str, &'static [u8])],
+    pub audio: &'static [u8],
+    pub packets: &'static [(&'static [u8], u32)],
+    pub midi: &'static [u8],
+    pub failing: &'static [(Call, u64)],
+    pub steps: Steps,
+    pub status: u8,
+    /// How many frames were played, or None where no device was used.
+    pub frames: Option<u64>,
+    pub out: &'static [u8],
+    /// The senders of the entries of the journal in order, each with how many in a row it has.
+    pub entries: &'static [(u8, u32)],
+    /// The packets that were sent in order, each with the port of 127.0.0.1 that it went to, and how
+    /// often in a row.
+    pub sent: &'static [(u16, &'static [u8], u32)],
+    /// How many commands of OSC found their ring full.
+    pub full: u64,
+    pub console: &'static [u8],
+    /// Files at the end, beside those that stood before it, and names that have none.
+    pub files: &'static [(&'static str, &'static [u8])],
+    pub missing: &'static [&'static str],
+}
+
+/// A session of one empty loop over one channel, with periods of four frames. Nothing comes.
+pub fn empty() -> Case {
+    Case {
         title: "nothing comes",
+        words: &[
+            "live",
+            "--channels",
+            "1",
+            "--period",
+            "4",
+            "--chunks",
+            "64",
+            "--quota",
+            "512",
+        ],
+        more: &[],
+        given: &[],
         audio: b"",
         packets: &[],
-        failing_reads: &[],
-        failing_writes: &[],
-        failing_receives: &[],
-        failing_sends: &[],
-        failing_midi: &[],
-        failing_files: &[],
-        status: LiveStatus::Done,
-        frames: 0,
-        written: 0,
+        midi: b"",
+        failing: &[],
+        steps: Steps {
+            audio: &[],
+            link: &[],
+            midi: &[],
+            keeper: &[],
+        },
+        status: 0,
+        frames: Some(0),
+        out: b"",
         entries: &[],
         sent: &[],
-        unsent: 0,
-        file: None,
+        full: 0,
+        console: b"frames 0 entries 0 osc 0 midi 0 unsent 0 saves 0 refused 0\nstatus 0\n",
+        files: &[],
+        missing: &["j", "a.wav"],
     }
 }
 
-/// The devices of a session.
-type Outside = Devices<MemKeeper, MemSource, MemSink, MemLink, MemSource>;
+/// What stands outside of a session, and what it leaves.
+type Scripted<'a> = Outside<
+    ScriptedKeeper<'a>,
+    ScriptedSource<'a>,
+    MemSink,
+    ScriptedLink<'a>,
+    ScriptedSource<'a>,
+    MemSink,
+>;
 
-/// A loop of four frames, with all controls as they begin.
-fn strip() -> StripSettings
-    ensures { result.length ≡ 4 }
-{
-    StripSettings {
-        length: 4,
-        cycle: 4,
-        feedback: 1000,
-        wet: 1000,
-        round: 0,
-        quantize: 0,
-        rec_thresh: 0,
+type Ended<'a> = End<
+    ScriptedKeeper<'a>,
+    ScriptedSource<'a>,
+    MemSink,
+    ScriptedLink<'a>,
+    ScriptedSource<'a>,
+    MemSink,
+>;
+
+/// The numbers of the calls of this kind that fail.
+fn failing(alloc: Global, case: &Case, call: Call) -> Result<Vec<u64>, Fail> {
+    let mut numbers = Vec::new(alloc);
+    for (kind, number) in case.failing {
+        if *kind == call {
+            numbers.push(*number)?;
+        }
     }
+    Ok(numbers)
 }
 
-/// A setup for two such loops.
-fn setup() -> Result<Setup, Fail>
-    ensures strips { IfOk result (λ s. (first second : StripSettings)
-        × (s.settings.strips ≡ first ∷ second ∷ []) × (first.length ≡ 4) × (second.length ≡ 4)) }
-    ensures numbers { IfOk result (λ s. (s.chunks ≡ 64) × (s.quota ≡ 512)) }
-{
-    let mut strips = Strips::new();
-    strips.push(strip());
-    strips.push(strip());
-    match Settings::of(48000, Globals::default(), strips) {
-        Some(settings) => Ok(Setup {
-            settings,
-            chunks: 64,
-            quota: 512,
-        }),
-        None => Err(Fail::new("not in range")),
+fn words(alloc: Global, case: &Case) -> Result<Vec<String>, Fail> {
+    let mut words = Vec::new(alloc);
+    for word in case.words {
+        words.push(String::from_str(alloc, word)?)?;
     }
-}
-
-/// A frame with this number on both sides.
-fn mono(sample: i16) -> Frame {
-    let side = widen(sample);
-    Frame {
-        left: side,
-        right: side,
+    for word in case.more {
+        words.push(String::from_str(alloc, word)?)?;
     }
+    Ok(words)
 }
 
-/// The list of a loop.
-fn list(alloc: Global) -> Result<Frames, Fail>
-    ensures { IfOk result (λ l. length l ≡ 4) }
-{
-    let frames = [mono(1), mono(2), mono(3), mono(4)];
-    Ok(Frames::of(Vec::from_slice(alloc, frames.as_slice())?))
+fn name(text: &str) -> Result<Name, Fail> {
+    Ok(Name::read(text.as_bytes()).ok_or("not a name")?)
 }
 
-/// The lists of the two loops.
-fn initial(alloc: Global) -> Result<Initial, Fail>
-    ensures { IfOk result (λ i. (first second : List Sound) × (i ≡ first ∷ second ∷ [])
-        × (length first ≡ 4) × (length second ≡ 4)) }
-{
-    let (first, second) = (list(alloc)?, list(alloc)?);
-    let mut initial = Initial::new(alloc);
-    match (initial.push(first), initial.push(second)) {
-        (Ok(()), Ok(())) => Ok(initial),
-        _ => Err(Fail::new("memory")),
+fn keeper(alloc: Global, case: &Case) -> Result<MemKeeper, Fail> {
+    let reads = failing(alloc, case, Call::FileRead)?;
+    let writes = failing(alloc, case, Call::FileWrite)?;
+    let mut keeper = MemKeeper::new(alloc, reads, writes);
+    for (file, bytes) in case.given {
+        keeper.put(alloc, &name(file)?, bytes).ok().ok_or("memory")?;
     }
+    Ok(keeper)
 }
 
-/// With what all sessions begin.
-pub fn begun(alloc: Global) -> Result<(Setup, Initial), Fail>
-    ensures lists { IfOk result (λ r. AreLists r.0.settings.strips r.1) }
-    ensures numbers { IfOk result (λ r. (length r.0.settings.strips ≡ 2) × (r.0.chunks ≡ 64)
-        × (r.0.quota ≡ 512)) }
-{
-    let setup = setup()?;
-    let initial = initial(alloc)?;
-    Ok((setup, initial))
+fn source(alloc: Global, bytes: &[u8], case: &Case, call: Call) -> Result<MemSource, Fail> {
+    let bytes = Vec::from_slice(alloc, bytes)?;
+    let failing = failing(alloc, case, call)?;
+    Ok(MemSource::new(bytes, failing, Vec::new(alloc)))
 }
 
-fn devices(alloc: Global, session: &Session) -> Result<Outside, Fail> {
-    let mut link = MemLink::new(
-        alloc,
-        Vec::from_slice(alloc, session.failing_receives)?,
-        Vec::new(alloc),
-        Vec::from_slice(alloc, session.failing_sends)?,
-    );
-    for packet in session.packets {
-        link.give(FROM, packet).ok().ok_or("memory")?;
+fn link(alloc: Global, case: &Case) -> Result<MemLink, Fail> {
+    let receives = failing(alloc, case, Call::Receive)?;
+    let sends = failing(alloc, case, Call::Send)?;
+    let mut link = MemLink::new(alloc, receives, Vec::new(alloc), sends);
+    for (bytes, times) in case.packets {
+        for _ in 0..*times {
+            link.give(FROM, bytes).ok().ok_or("memory")?;
+        }
     }
-    Ok(Devices {
-        keeper: MemKeeper::new(
-            alloc,
-            Vec::new(alloc),
-            Vec::from_slice(alloc, session.failing_files)?,
-        ),
-        audio: MemSource::new(
-            Vec::from_slice(alloc, session.audio)?,
-            Vec::from_slice(alloc, session.failing_reads)?,
-            Vec::new(alloc),
-        ),
-        out: MemSink::new(alloc, Vec::from_slice(alloc, session.failing_writes)?),
-        link,
-        midi: MemSource::new(
-            Vec::new(alloc),
-            Vec::from_slice(alloc, session.failing_midi)?,
-            Vec::new(alloc),
-        ),
+    Ok(link)
+}
+
+fn outside<'a>(alloc: Global, flags: &'a Flags, case: &Case) -> Result<Scripted<'a>, Fail> {
+    let steps = case.steps;
+    let audio = source(alloc, case.audio, case, Call::AudioRead)?;
+    let midi = source(alloc, case.midi, case, Call::MidiRead)?;
+    Ok(Outside {
+        keeper: ScriptedKeeper::new(keeper(alloc, case)?, Script::new(flags, steps.keeper)),
+        audio: ScriptedSource::new(audio, Script::new(flags, steps.audio)),
+        out: MemSink::new(alloc, failing(alloc, case, Call::AudioWrite)?),
+        link: ScriptedLink::new(link(alloc, case)?, Script::new(flags, steps.link)),
+        midi: ScriptedSource::new(midi, Script::new(flags, steps.midi)),
+        console: MemSink::new(alloc, failing(alloc, case, Call::Tell)?),
     })
 }
 
-/// Runs a session.
-fn run<R: Wait + Clock + Threads + Sync>(
+/// Plays a session.
+fn played<'a, R: Wait + Clock + Threads + Sync>(
     rt: &R,
     alloc: Global,
-    session: &Session,
-) -> Result<LiveEnd<MemKeeper, MemSource, MemSink, MemLink, MemSource>, Fail> {
-    let (setup, initial) = begun(alloc)?;
-    let devices = devices(alloc, session)?;
-    let bindings = Bindings::new(alloc);
-    match live_core(
-        &Activities,
-        alloc,
-        rt,
-        &setup,
-        &initial,
-        bindings,
-        1,
-        4,
-        devices,
-    ) {
-        Ok(end) => Ok(end),
-        Err(_) => Err(Fail::new("it didn't begin")),
-    }
+    flags: &'a Flags,
+    case: &Case,
+) -> Result<Ended<'a>, Fail> {
+    let words = words(alloc, case)?;
+    let outside = outside(alloc, flags, case)?;
+    Ok(live_run(alloc, rt, &words, outside))
 }
 
-/// The entries of the journal are these.
-fn are_entries(journal: &Journal, wanted: &[(u8, u32)]) -> bool {
-    let entries = journal.entries();
-    if entries.len() != wanted.len() {
-        return false;
-    }
-    for place in 0..wanted.len() {
-        let (sender, seq) = wanted[place];
-        if place >= entries.len() || entries[place].sender != sender || entries[place].seq != seq {
-            return false;
+/// The senders of the entries are these.
+fn are_entries(entries: &[Entry], wanted: &[(u8, u32)]) -> bool {
+    let mut left = entries.iter();
+    for (sender, times) in wanted {
+        for _ in 0..*times {
+            match left.next() {
+                Some(entry) if entry.sender == *sender => {}
+                _ => return false,
+            }
         }
     }
-    true
+    left.next().is_none()
 }
 
 /// The packets that were sent are these.
-pub fn are_sent(link: &MemLink, wanted: &[&[u8]]) -> bool {
-    let out = link.out();
-    if out.len() != wanted.len() {
-        return false;
-    }
-    for place in 0..wanted.len() {
-        match out.get(place) {
-            Some(packet) if packet.bytes() == wanted[place] => {}
-            _ => return false,
+fn are_sent(link: &MemLink, wanted: &[(u16, &[u8], u32)]) -> bool {
+    let mut left = link.out().iter();
+    for (port, bytes, times) in wanted {
+        for _ in 0..*times {
+            match left.next() {
+                Some(packet) if packet.addr().ip == FROM.ip => {
+                    if packet.addr().port != *port || packet.bytes() != *bytes {
+                        return false;
+                    }
+                }
+                _ => return false,
+            }
         }
     }
-    true
+    left.next().is_none()
 }
 
-/// The file under this name has these bytes, or isn't there.
-pub fn is_left(keeper: &MemKeeper, name: &str, wanted: Option<&[u8]>) -> Result<bool, Fail> {
-    let name = Name::read(name.as_bytes()).ok_or("not a name")?;
-    Ok(match (keeper.file(&name), wanted) {
-        (Some(bytes), Some(others)) => bytes == others,
-        (None, None) => true,
-        _ => false,
-    })
+/// Each of these files has its bytes.
+fn have(keeper: &MemKeeper, files: &[(&str, &[u8])]) -> Result<bool, Fail> {
+    for (file, wanted) in files {
+        match keeper.file(&name(file)?) {
+            Some(bytes) if bytes == *wanted => {}
+            _ => return Ok(false),
+        }
+    }
+    Ok(true)
 }
 
-/// Runs a session, and sees that it ends as it has to.
-pub fn ends<R: Wait + Clock + Threads + Sync + Abort>(
-    rt: &R,
-    alloc: Global,
-    session: &Session,
-) -> Result<(), Fail> {
-    let end = run(rt, alloc, session)?;
-    let title = session.title;
+/// The files at the end are those of the case.
+fn are_left(keeper: &MemKeeper, case: &Case) -> Result<bool, Fail> {
+    for file in case.missing {
+        if keeper.file(&name(file)?).is_some() {
+            return Ok(false);
+        }
+    }
+    Ok(have(keeper, case.given)? && have(keeper, case.files)?)
+}
+
+/// No device was used: the call that is to fail, which is the first, is made here.
+fn are_unused(outside: &mut Scripted) -> bool {
+    let mut buf = [0; 8192];
+    outside.audio.read(&mut buf) == SourceAnswer::Failed
+        && outside.midi.read(&mut buf) == SourceAnswer::Failed
+        && outside.link.recv(&mut buf) == LinkAnswer::Failed
+}
+
+/// What a session leaves beside its devices is what the case says.
+fn leaves(rt: &impl Abort, case: &Case, session: &Session) {
+    let title = case.title;
+    let full = session.osc.tally.ring_full();
     assert_eq!(rt;
-        (end.status, end.frames),
-        (session.status, session.frames),
-        "{title}"
-    );
-    let out = end.devices.out.bytes();
-    assert!(rt;
-        out.len() == session.written && out.iter().all(|byte| *byte == 0),
+        (Some(session.frames), full),
+        (case.frames, case.full),
         "{title}"
     );
     assert!(rt;
-        are_entries(&end.journal, session.entries),
+        are_entries(session.journal.entries(), case.entries),
         "the journal where {title}"
     );
+}
+
+/// Plays a session, and sees that it ends as it has to.
+fn ends<R: Wait + Clock + Threads + Sync + Abort>(
+    rt: &R,
+    alloc: Global,
+    case: &Case,
+) -> Result<(), Fail> {
+    let flags = Flags::new();
+    let mut end = played(rt, alloc, &flags, case)?;
+    let title = case.title;
+    assert_eq!(rt;
+        (end.status, end.outside.console.bytes()),
+        (case.status, case.console),
+        "{title}"
+    );
+    assert_eq!(rt; end.outside.out.bytes(), case.out, "{title}");
     assert!(rt;
-        are_sent(&end.devices.link, session.sent),
+        are_sent(&end.outside.link.link, case.sent),
         "the packets where {title}"
     );
-    assert_eq!(rt; end.osc.unsent, session.unsent, "{title}");
     assert!(rt;
-        is_left(&end.devices.keeper, "a.wav", session.file)?,
-        "the file where {title}"
+        are_left(&end.outside.keeper.keeper, case)?,
+        "the files where {title}"
     );
+    match &end.session {
+        Some(session) => leaves(rt, case, session),
+        None => assert!(rt;
+            case.frames.is_none() && are_unused(&mut end.outside),
+            "the devices where {title}"
+        ),
+    }
+    Ok(())
+}
+
+/// Plays each of the sessions, and sees that it ends as it has to.
+pub fn end<R: Wait + Clock + Threads + Sync + Abort>(
+    rt: &R,
+    alloc: Global,
+    cases: &[Case],
+) -> Result<(), Fail> {
+    for case in cases {
+        ends(rt, alloc, case)?;
+    }
     Ok(())
 }
