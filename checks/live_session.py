@@ -147,8 +147,9 @@ class Live:
                     if self.sock is not sock or self.gone:
                         return
                     continue
-                data = sock.recv(65536)
-            except ConnectionRefusedError:
+                # What was there may be an error alone, which a send has taken since.
+                data = sock.recv(65536, socket.MSG_DONTWAIT)
+            except (ConnectionRefusedError, BlockingIOError):
                 continue
             except (OSError, ValueError):
                 return
