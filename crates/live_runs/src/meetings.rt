@@ -1,10 +1,10 @@
-//! Sessions whose devices wait for one another. What they come to is the same whatever the schedule,
-//! and only activities on threads of their own come to it.
+//! Sessions whose devices wait for one another. What they come to is the same whatever the
+//! schedule, and only activities on threads of their own come to it.
 
 use crate::flags::Flag;
 use crate::scripts::Step;
 use crate::session::{Case, Steps, empty, end};
-use crate::sessions::{asked, loaded};
+use crate::sessions::{asked, saved};
 use crate::texts::{
     GET, LIST, ONE, SAVE, SAVE_SECOND, SAVED, SAVED_SECOND, SILENCE, TOLD_FOUR, TOLD_NONE, TWO,
 };
@@ -49,7 +49,6 @@ fn met() -> [Case; 4] {
         },
         Case {
             title: "all four activities meet while a loop is saved",
-            packets: &[(SAVE, 1)],
             steps: Steps {
                 audio: &[Step::Until(Flag::Keeper), Step::Meet(Flag::Audio)],
                 link: &[
@@ -60,18 +59,7 @@ fn met() -> [Case; 4] {
                 midi: &[Step::Meet(Flag::Midi)],
                 keeper: &[Step::Meet(Flag::Keeper)],
             },
-            entries: &[(0, 1), (2, 1)],
-            sent: &[(9951, SAVED, 1)],
-            console: b"frames 0 entries 2 osc 1 midi 0 unsent 0 saves 1 refused 0\nstatus 0\n",
-            files: &[
-                (
-                    "j",
-                    b"looper journal 1\n0 0 0 save 0 a.wav\n0 2 0 release 0 0\nend\n",
-                ),
-                ("a.wav", LIST),
-            ],
-            missing: &[],
-            ..loaded()
+            ..saved()
         },
         Case {
             title: "a loaded loop is started before the first period",

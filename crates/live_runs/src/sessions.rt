@@ -41,6 +41,26 @@ pub fn loaded() -> Case {
     }
 }
 
+/// A session that is loaded, and whose loop is saved.
+pub fn saved() -> Case {
+    Case {
+        title: "a loaded loop is saved",
+        packets: &[(SAVE, 1)],
+        entries: &[(0, 1), (2, 1)],
+        sent: &[(9951, SAVED, 1)],
+        console: b"frames 0 entries 2 osc 1 midi 0 unsent 0 saves 1 refused 0\nstatus 0\n",
+        files: &[
+            (
+                "j",
+                b"looper journal 1\n0 0 0 save 0 a.wav\n0 2 0 release 0 0\nend\n",
+            ),
+            ("a.wav", LIST),
+        ],
+        missing: &[],
+        ..loaded()
+    }
+}
+
 /// A session that doesn't begin.
 pub fn refused() -> Case {
     Case {
@@ -105,22 +125,7 @@ fn of_files() -> [Case; 6] {
             files: &[("j", b"looper journal 1\n0 0 0 get 0 loop_len\nend\n")],
             ..loaded()
         },
-        Case {
-            title: "a loaded loop is saved",
-            packets: &[(SAVE, 1)],
-            entries: &[(0, 1), (2, 1)],
-            sent: &[(9951, SAVED, 1)],
-            console: b"frames 0 entries 2 osc 1 midi 0 unsent 0 saves 1 refused 0\nstatus 0\n",
-            files: &[
-                (
-                    "j",
-                    b"looper journal 1\n0 0 0 save 0 a.wav\n0 2 0 release 0 0\nend\n",
-                ),
-                ("a.wav", LIST),
-            ],
-            missing: &[],
-            ..loaded()
-        },
+        saved(),
         Case {
             title: "a session is saved as it was loaded",
             packets: &[(SAVE_ALL, 1)],
