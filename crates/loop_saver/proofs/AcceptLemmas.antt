@@ -28,11 +28,6 @@ pub put_all-append : (fs gs : List SavedFile) (files : Option Files) →
 put_all-append [] gs files = refl
 put_all-append (f ∷ fs) gs files = put_all-append fs gs _
 
--- none was written
-pub writes_none : {P : Type 0} (k : Keeper P) (fs : List SavedFile) (old : P) →
-    WritesFirst fs (k.files old) (k.files old)
-writes_none k fs old = record { written = []; rest = fs; whole = refl; files = refl }
-
 -- all were written
 pub writes_all : (fs : List SavedFile) (old new : Option Files) → new ≡ put_all fs old →
     WritesFirst fs old new
