@@ -3,9 +3,8 @@
 -- so with the frames read and played behind it. The frames read are those of the bytes that the
 -- source gave, behind the bytes that were kept; the bytes written are the samples of the frames
 -- played, all of them or, where the sink failed, a first part. Reading stopped for a reason.
--- Such doings compose where the first ended with neither a failed read nor a failed write, nor at the
--- source's end.
--- "The turn of audio" in docs/rules.md.
+-- Such doings compose where the first ended with neither a failed read nor a failed write, nor at
+-- the source's end. "The turn of audio" in docs/rules.md.
 use Rattle.std.specs.Prelude.{◌≡◌, ◌<◌, ◌≤◌, ◌+◌, ◌⊎◌, ⊤, ℕ, List, length, Option}
 use Rattle.sl_base.specs.Limits.{max_period}
 use Rattle.sl_base.specs.Sounds.{Sound}

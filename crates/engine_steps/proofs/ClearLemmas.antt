@@ -67,7 +67,8 @@ commands_clear_nothing en e other =
     record { kept = other_clears en.sender en.command (length e.looper.tracks) e.sending other }
 
 -- a release of one save answers none that is apart from it
-pub apart_unanswered : (target other : Target) → AreApart target other → answers target other ≡ false
+pub apart_unanswered : (target other : Target) → AreApart target other →
+    answers target other ≡ false
 apart_unanswered (One i) (One k) apart = ne_eqb k i (λ is. apart (sym is))
 apart_unanswered (One i) All apart = absurd apart
 apart_unanswered (One i) Selected apart = absurd apart

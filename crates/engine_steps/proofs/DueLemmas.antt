@@ -75,7 +75,8 @@ first_goes target o s rest is own apart =
     let here : answers target s.target ≡ true = ap (answers target) is ∙ own
     in ap (λ b. cond (not b) (s ∷ filter (λ (x : Save). not (answers target x.target)) rest)
     (filter (λ (x : Save). not (answers target x.target)) rest)) here
-    ∙ all_stay target rest (subst (λ t. AllByRecursion (λ (x : Save). AreApart t x.target) rest) is apart)
+    ∙ all_stay target rest
+    (subst (λ t. AllByRecursion (λ (x : Save). AreApart t x.target) rest) is apart)
 
 if_so : {X : Type 0} (b : Bool) (x y z : X) → b ≡ true → x ≡ z → cond b x y ≡ z
 if_so b x y z is same = rw is same
@@ -174,7 +175,8 @@ pub oldest_answered : (b : Beginning) (s : SoFar) (target : Target) (o : ℕ) (e
 oldest_answered b s target o e begin h is there ends =
     let due = oldest_is e.due target is
     in let kept = looper_kept b s e begin h
-    in let count = and_parts (nat_le 1 (length e.looper.tracks)) (nat_le (length e.looper.tracks) 16)
+    in let count = and_parts
+    (nat_le 1 (length e.looper.tracks)) (nat_le (length e.looper.tracks) 16)
     kept.looper.count
     in let some : 1 ≤ length e.looper.tracks = leb-true 1 (length e.looper.tracks) count.0
     in record {

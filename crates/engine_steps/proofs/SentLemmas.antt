@@ -27,9 +27,15 @@ use Rattle.engine_steps.proofs.ReachedLemmas.{blocks_follow}
 
 -- a block that was sent leaves all else, by whether it was its save's last
 sends_by : (last : Bool) (s : Save) (saves : List Save) (e : EngineOf) →
-    let now : EngineOf = record e { sending = s ∷ saves } in OnlySends now (sent_of last s saves now)
+    let now : EngineOf = record e { sending = s ∷ saves } in
+    OnlySends now (sent_of last s saves now)
 sends_by true s saves e =
-    record { looper = refl; journal = refl; frames = refl; saves = append_assoc e.due (s ∷ []) saves }
+    record {
+      looper = refl;
+      journal = refl;
+      frames = refl;
+      saves = append_assoc e.due (s ∷ []) saves;
+    }
 sends_by false s saves e = record { looper = refl; journal = refl; frames = refl; saves = refl }
 
 sends_from : (saves : List Save) (e : EngineOf) →

@@ -9,8 +9,8 @@
 //! - It may take every command of OSC and MIDI at any time, and a release once the blocks of the
 //!   oldest unanswered save were all sent. Nothing here knows of periods: frames may be cut in any
 //!   way.
-//! - Saves are answered one after another: a release of what is due takes exactly the oldest one, and
-//!   as many saves end in the blocks that were sent as are answered or due.
+//! - Saves are answered one after another: a release of what is due takes exactly the oldest one,
+//!   and as many saves end in the blocks that were sent as are answered or due.
 //! - With more loops than its journal speaks of, it sounds the same.
 //!
 //! Begin with `specs/Engines`, then `specs/InStep`; `laws` has what holds. The rules are "The run"

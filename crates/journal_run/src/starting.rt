@@ -57,7 +57,8 @@ pub fn play<P: Keeper>(
     requires period { 1 ≤ period }
     requires within { period ≤ max_period }
     ensures reads { P.read_faults keeper.new ≡ P.read_faults keeper.old }
-    ensures value { Performs P.Keeper entries.now input.now (start settings chunks initial) keeper.old
+    ensures value { Performs P.Keeper entries.now input.now
+        (start settings chunks initial) keeper.old
         keeper.new result }
 {
     let rate = settings.rate;

@@ -9,7 +9,8 @@ use text_lines::{Shape, have_shapes};
 
 /// The words have the form of a command with this first word and these shapes behind it.
 fn have_form(word: &[u8], words: &[&[u8]], due: &[u8], shapes: &[Shape]) -> bool
-    ensures { result ≡ have_form word.now (map (λ w. w.now) words.now) (form_of due.now shapes.now) }
+    ensures { result ≡ have_form word.now (map (λ w. w.now) words.now)
+        (form_of due.now shapes.now) }
 {
     due == word && have_shapes(shapes, words)
 }

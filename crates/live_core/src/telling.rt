@@ -46,7 +46,8 @@ fn send_to<L: Link>(link: &mut L, unsent: &mut u64, to: &ReturnTo, reply: Reply)
 impl<L: Link> Teller for LinkTeller<L> {
     ghost use Rattle.live_core.specs.Telling.{TellsMore};
 
-    ghost tells = { λ a more b. TellsMore more (L.seen a.link) (L.seen b.link) a.account b.account };
+    ghost tells = { λ a more b. TellsMore more (L.seen a.link) (L.seen b.link)
+        a.account b.account };
 
     #[tactic(auto, using(crate::proofs::TellingLemmas::tells_one, crate::proofs::TellingLemmas::tells_nowhere))]
     fn tell(&mut self, reply: Reply) {

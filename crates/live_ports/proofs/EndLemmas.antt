@@ -18,10 +18,12 @@ stays_count count =
 
 -- bytes that were copied to the front of a buffer are its first
 pub front_of : (copied rest : List ℕ) (n : ℕ) → length copied ≡ n → take n (copied ++ rest) ≡ copied
-front_of copied rest n e = subst (λ k. take k (copied ++ rest) ≡ copied) e (take-append_seam copied rest)
+front_of copied rest n e =
+    subst (λ k. take k (copied ++ rest) ≡ copied) e (take-append_seam copied rest)
 
 -- a source that gave the next bytes
-pub got_bytes : (bytes : List ℕ) (next n : ℕ) (calls : Tally) (ended : Bool) (copied rest : List ℕ) →
+pub got_bytes : (bytes : List ℕ) (next n : ℕ) (calls : Tally) (ended : Bool)
+    (copied rest : List ℕ) →
     ended ≡ false → length copied ≡ n → copied ≡ take n (drop next bytes) →
     DidRead (source_seen (record { left = drop next bytes; calls = calls; ended = ended }))
     (source_seen (record { left = drop (next + n) bytes; calls = calls; ended = ended }))
@@ -43,7 +45,8 @@ got_bytes bytes next n calls false copied rest e size copy =
 pub got_packet : (l : LinkState) (p : Packet) (ps : List Packet) (from : Addr) (n : ℕ)
     (bytes copied rest : List ℕ) → l.ended ≡ false → l.left ≡ p ∷ ps → from ≡ p.addr →
     bytes ≡ p.bytes → n ≡ min 8192 (length bytes) → length copied ≡ n → copied ≡ take n bytes →
-    DidReceive (link_seen l) (link_seen (record l { left = ps })) (copied ++ rest) (GotPacket n from)
+    DidReceive (link_seen l) (link_seen (record l { left = ps })) (copied ++ rest)
+    (GotPacket n from)
 got_packet l p ps from n bytes copied rest e left sender all few size copy =
     let received : take n (copied ++ rest) ≡ take 8192 p.bytes =
     front_of copied rest n size ∙ (copy ∙ (ap (λ k. take k bytes) few

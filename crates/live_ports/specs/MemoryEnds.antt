@@ -1,8 +1,7 @@
--- A source in memory gives as many bytes as fit and are left. A link in memory gives its packets one
--- by one, and holds those that were sent. A call that is listed to fail or to give nothing leaves
--- what there is. Behind the last byte or packet comes the end, and from then on each call answers
--- it, whatever is listed.
--- "The outside" in docs/rules.md.
+-- A source in memory gives as many bytes as fit and are left. A link in memory gives its packets
+-- one by one, and holds those that were sent. A call that is listed to fail or to give nothing
+-- leaves what there is. Behind the last byte or packet comes the end, and from then on each call
+-- answers it, whatever is listed. "The outside" in docs/rules.md.
 use Rattle.std.specs.Prelude.{◌≤◌, IsTrue, ℕ, Bool, true, false, List, [], ◌∷◌, ◌++◌, length, drop, map, min, Some}
 use Rattle.sl_ports.specs.declared.sinks.SinkAnswer.{SinkAnswer}
 use Rattle.sl_ports.specs.declared.sinks.SinkAnswer.TheVariants.{Done, Failed as Unsent}

@@ -21,8 +21,8 @@ use std::{fs, io};
 /// gives nothing for now. It tells nothing of what it holds. One that couldn't be opened fails at
 /// each read.
 ///
-/// A FIFO is held open to write as well: to open it waits for no writer, and where one closes it the
-/// next one is heard. Opening a device that another program holds may wait.
+/// A FIFO is held open to write as well: to open it waits for no writer, and where one closes it
+/// the next one is heard. Opening a device that another program holds may wait.
 #[derive(Drop)]
 pub struct FileSource<F> {
     file: Option<F>,

@@ -5,11 +5,12 @@
 //! - Whatever may fail or give nothing keeps a count of each, which never falls, and which rises in
 //!   the calls that answer so.
 //! - A packet is sent whole or not at all, and a send changes nothing of what is received.
-//! - What is left and was sent is told by those in memory. Nothing is said of it where it isn't told.
+//! - What is left and was sent is told by those in memory. Nothing is said of it where it isn't
+//!   told.
 //! - `MemSource` and `MemLink` stand in memory, and fail or give nothing at the calls whose numbers
 //!   they are given. `StdSource`, `FileSource` and `UdpLink` are the real ones, which remember the
-//!   first error for the program to tell. A read of `FileSource` and a receive of `UdpLink` wait for
-//!   a bounded time.
+//!   first error for the program to tell. A read of `FileSource` and a receive of `UdpLink` wait
+//!   for a bounded time.
 //!
 //! Begin with `source` and `link`. The rules are "The outside" in docs/rules.md.
 #![tactic(auto)]

@@ -73,8 +73,8 @@ impl Model for MemLink {
 }
 
 impl MemLink {
-    /// No packets yet. The receives of the listed numbers, each counted from 1, are to fail, those of
-    /// the second list to give nothing, and the sends of the third list to fail.
+    /// No packets yet. The receives of the listed numbers, each counted from 1, are to fail, those
+    /// of the second list to give nothing, and the sends of the third list to fail.
     pub fn new(
         alloc: Global,
         failing: Vec<u64>,

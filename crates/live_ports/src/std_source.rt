@@ -9,8 +9,8 @@ use std::io;
 use std::io::Read;
 use std::marker::Model;
 
-/// Reads standard input, or another reader that waits for its next byte. A read gives what has come,
-/// and waits where nothing has. It tells nothing of what it holds.
+/// Reads standard input, or another reader that waits for its next byte. A read gives what has
+/// come, and waits where nothing has. It tells nothing of what it holds.
 #[derive(Drop)]
 pub struct StdSource<I> {
     input: I,

@@ -23,8 +23,8 @@ pub enum Listen {
 
 /// Receives and sends datagrams of IPv4. It tells nothing of what they hold.
 ///
-/// A receive waits for so long at most, and then gives nothing for now. A link whose socket couldn't
-/// be opened fails at each call.
+/// A receive waits for so long at most, and then gives nothing for now. A link whose socket
+/// couldn't be opened fails at each call.
 #[derive(Drop)]
 pub struct UdpLink {
     socket: Option<UdpSocket>,

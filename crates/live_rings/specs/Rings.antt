@@ -1,9 +1,9 @@
 -- A session with a quota of commands for each of OSC and MIDI has five rings: for their commands,
 -- for the outcomes of saves, for replies, and for blocks. On a ring of commands as many are ever
--- sent as the quota, and on that of outcomes twice as many. The blocks are those of at most twice as
--- many saves as the quota. A ring holds 256 items, that of blocks 64. Three more rings carry one
--- number each, which tells an activity that the activity of audio is over.
--- "The rings of a session" in docs/rules.md.
+-- sent as the quota, and on that of outcomes twice as many. The blocks are those of at most twice
+-- as many saves as the quota. A ring holds 256 items, that of blocks 64. Three more rings carry one
+-- number each, which tells an activity that the activity of audio is over. "The rings of a session"
+-- in docs/rules.md.
 use Rattle.std.specs.Prelude.{◌≡◌, ◌*◌, ℕ}
 use Rattle.event_rings.specs.Ends.{IsNew, max_limit}
 use Rattle.live_rings.specs.declared.rings.Rings.{Rings}

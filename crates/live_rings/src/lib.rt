@@ -5,8 +5,8 @@
 //!   of MIDI, outcomes of saves, replies, and blocks of saves. Each has its capacity, and its limit
 //!   or its bound by the quota.
 //! - Three more carry one number each, which tells an activity that audio is over.
-//! - Where the ends of each of the five have met, what was sent on it is what was taken, followed by
-//!   what is left.
+//! - Where the ends of each of the five have met, what was sent on it is what was taken, followed
+//!   by what is left.
 //!
 //! Begin with `rings`, then `meeting`. The rules are "Rings" and "The rings of a session" in
 //! docs/rules.md.

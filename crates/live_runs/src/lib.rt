@@ -1,4 +1,5 @@
-//! Live sessions over devices in memory, from the words to the last line. This crate has tests alone.
+//! Live sessions over devices in memory, from the words to the last line. This crate has tests
+//! alone.
 //!
 //! - `sessions` has sessions that end by themselves: what is played, written, entered, sent, saved
 //!   and told was worked out by hand from the rules.

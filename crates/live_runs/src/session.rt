@@ -70,8 +70,8 @@ pub struct Case {
     pub out: &'static [u8],
     /// The senders of the entries of the journal in order, each with how many in a row it has.
     pub entries: &'static [(u8, u32)],
-    /// The packets that were sent in order, each with the port of 127.0.0.1 that it went to, and how
-    /// often in a row.
+    /// The packets that were sent in order, each with the port of 127.0.0.1 that it went to, and
+    /// how often in a row.
     pub sent: &'static [(u16, &'static [u8], u32)],
     /// How many commands of OSC found their ring full.
     pub full: u64,

@@ -56,7 +56,8 @@ taken : (en : Entry) (b : Beginning) (input output : List Sound) (answered more 
     IsInStep b (so_far input output more (took en e) next) (took en e)
 taken en b input output answered more e p next now number clears replies saves blocks h =
     subst (λ s. IsInStep b s (took en e))
-    (same_lists (so_far input output more (took en e) next) _ _ _ _ _ refl refl replies saves blocks)
+    (same_lists (so_far input output more (took en e) next) _ _ _ _ _ refl refl
+    replies saves blocks)
     (took_in_step b (so_far input output answered e p) en e now number clears h)
 
 command_taken : (sender : ℕ) (c : Command) (e : EngineOf) (p next : Passed)
@@ -190,7 +191,8 @@ outcome_step target o e p is there ends free = λ b input output h.
       engine = taken en b input output h.answered (h.answered ++ due.oldest ∷ []) e p next refl refl
           (release_clears b input output target o e p h is)
           (reply_behind p.replies p.held (reply en e.looper) free)
-          (saves_moved h.answered due.oldest e.due due.rest e.sending _ (waiting (took en e)) due.is none wait)
+          (saves_moved h.answered due.oldest e.due due.rest e.sending _ (waiting (took en e))
+          due.is none wait)
           refl h.engine;
       osc = commands_of-other 0 es en (omega arith) ∙ h.osc;
       midi = commands_of-other 1 es en (omega arith) ∙ h.midi;

@@ -85,9 +85,9 @@ pub fn there_is_room()
         next_block e ≡ Some block → IsTrue (may_follow p.blocks block bound) }
 {}
 
-/// As many saves end in the blocks that were put as outcomes were taken and saves are due. So a save
-/// is due where fewer outcomes were taken, and where no block is left and the outcome of each save
-/// that ended was taken, every save was released once.
+/// As many saves end in the blocks that were put as outcomes were taken and saves are due. So a
+/// save is due where fewer outcomes were taken, and where no block is left and the outcome of each
+/// save that ended was taken, every save was released once.
 pub fn as_many_saves_end_as_are_answered_or_due()
     ensures ends { (b : Beginning) → (input output : List Sound) → (e : EngineOf) →
         (p : Passed) → AreInStep b input output e p →

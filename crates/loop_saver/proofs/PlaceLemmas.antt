@@ -37,7 +37,8 @@ in_order : (blocks : List Block) (b : Block) (bound saves : ℕ) (saving : Optio
 in_order blocks b bound saves saving come may =
     let all = and_parts (is_some (place_of (blocks ++ b ∷ [])) && nat_lt (save_of b) bound)
     (fits_name b) may in
-    let first = and_parts (is_some (place_of (blocks ++ b ∷ []))) (nat_lt (save_of b) bound) all.0 in
+    let first = and_parts (is_some (place_of (blocks ++ b ∷ [])))
+    (nat_lt (save_of b) bound) all.0 in
     (subst (λ o. IsTrue (is_some o)) (one_more blocks b saves saving come) first.0, all.1)
 
 -- a block that may follow what was taken may come

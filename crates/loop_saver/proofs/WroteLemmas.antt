@@ -197,7 +197,8 @@ module _ {P : Type 0} (k : Keeper P) (rate : ℕ) where
       let one = one_save (Head s.number s.name s.target s.settings ∷ parts) s.number None t.mid old
       old t.now (files_of_save rate s) t.first none (first_feeds s old may.0) t.front in
       let more = saves_wrote saves t.now new t.next after may.1
-      (subst (λ m. Keeps k rate (blocks_for_all saves) m t.now t.next after new) one.over t.rest) in (
+      (subst (λ m. Keeps k rate (blocks_for_all saves) m t.now t.next after new)
+      one.over t.rest) in (
         more.0,
         subst (λ l. WroteSaves k rate (s ∷ saves) old l new)
             (sym (t.both ∙ ap (λ l. l ++ t.next) one.gave))

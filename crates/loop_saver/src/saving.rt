@@ -99,7 +99,8 @@ impl Saving {
 
     /// The name of the file of the list that is held.
     fn list_name(&self) -> Name
-        ensures { result ≡ list_name self.now.underway.target self.now.name self.now.underway.index }
+        ensures { result ≡ list_name self.now.underway.target self.now.name
+            self.now.underway.index }
     {
         match self.target {
             Target::All => part_name(&self.name, self.index),

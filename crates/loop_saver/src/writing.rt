@@ -39,7 +39,8 @@ pub fn write_list<P: Keeper>(
     requires length { length list.now ≤ max_list_frames }
     requires rate { rate ≤ max_rate }
     ensures reads { P.read_faults keeper.new ≡ P.read_faults keeper.old }
-    ensures value { Writes P.Keeper (list_file rate name.now list.now) keeper.old keeper.new result }
+    ensures value { Writes P.Keeper (list_file rate name.now list.now) keeper.old
+        keeper.new result }
 {
     if list.len() == 0 {
         return Ending::Written;

@@ -11,8 +11,9 @@
 //!   lengths of the lists alone (`step`), and only the frames of the part that is due are read.
 //! - Only `Engine::new` takes memory.
 //!
-//! Begin with `engine`, then `saving` and `step`; `laws` and `step_laws` have what holds of its calls together. The rules are
-//! "The run", "Entries and replies", "Saves" and "Blocks of a save" in docs/rules.md.
+//! Begin with `engine`, then `saving` and `step`; `laws` and `step_laws` have what holds of its
+//! calls together. The rules are "The run", "Entries and replies", "Saves" and "Blocks of a save"
+//! in docs/rules.md.
 #![tactic(auto)]
 
 mod engine;

@@ -161,7 +161,8 @@ given_may loops (Give kind channel number press) event command is event_is e =
     subst (MayBePlayed loops)
     (chosen (is_event_of kind channel number event) press command e)
     (press_may loops press (give_parts loops kind channel number press is).press)
-given_may loops (Sweep channel number target control low high) (events.ControlChange c n value) command is event_is e =
+given_may loops (Sweep channel number target control low high) (events.ControlChange c n value)
+    command is event_is e =
     let parts = sweep_parts loops channel number target control low high is in
     subst (MayBePlayed loops)
     (chosen (c == channel && n == number) (commands.Set target control (swept low high value))
@@ -173,13 +174,20 @@ given_may loops (Sweep channel number target control low high) (events.ControlCh
           (swept_in_range control loops low high value parts.of_loop event_is.2 parts.from_low
           parts.to_high);
     })
-given_may loops (Sweep channel number target control low high) (events.NoteOff c n) command is event_is e = absurd (cc)
-given_may loops (Sweep channel number target control low high) (events.NoteOn c n v) command is event_is e = absurd (cc)
-given_may loops (Sweep channel number target control low high) (events.PolyPressure c n a) command is event_is e = absurd (cc)
-given_may loops (Sweep channel number target control low high) (events.ProgramChange c n) command is event_is e = absurd (cc)
-given_may loops (Sweep channel number target control low high) (events.Pressure c a) command is event_is e = absurd (cc)
-given_may loops (Sweep channel number target control low high) (events.PitchBend c a) command is event_is e = absurd (cc)
-given_may loops (Sweep channel number target control low high) (events.Real b) command is event_is e = absurd (cc)
+given_may loops (Sweep channel number target control low high) (events.NoteOff c n)
+    command is event_is e = absurd (cc)
+given_may loops (Sweep channel number target control low high) (events.NoteOn c n v)
+    command is event_is e = absurd (cc)
+given_may loops (Sweep channel number target control low high) (events.PolyPressure c n a)
+    command is event_is e = absurd (cc)
+given_may loops (Sweep channel number target control low high) (events.ProgramChange c n)
+    command is event_is e = absurd (cc)
+given_may loops (Sweep channel number target control low high) (events.Pressure c a)
+    command is event_is e = absurd (cc)
+given_may loops (Sweep channel number target control low high) (events.PitchBend c a)
+    command is event_is e = absurd (cc)
+given_may loops (Sweep channel number target control low high) (events.Real b)
+    command is event_is e = absurd (cc)
 
 -- the first that gives something, or one of the others
 first_may : (loops : ℕ) (binding : Binding) (event : MidiEvent) (command : Command)

@@ -97,7 +97,10 @@ header_is_whole = (
                           λ e. Prim.omega arith,
                           (
                             λ e. Prim.omega arith,
-                            (λ e. Prim.omega arith, (λ e. Prim.omega arith, (λ e. Prim.omega arith, tt))),
+                            (
+                              λ e. Prim.omega arith,
+                              (λ e. Prim.omega arith, (λ e. Prim.omega arith, tt)),
+                            ),
                           ),
                         ),
                       ),

@@ -114,7 +114,8 @@ fn write_sweep(
 
 /// Writes the words of a line.
 fn write_line(out: &mut String, binding: &Binding) -> Result<(), AllocError>
-    ensures { OnOk result (string_bytes out.new ≡ string_bytes out.old ++ binding_line binding.now) }
+    ensures { OnOk result
+        (string_bytes out.new ≡ string_bytes out.old ++ binding_line binding.now) }
 {
     match binding {
         Binding::Give {

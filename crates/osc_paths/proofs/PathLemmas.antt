@@ -129,7 +129,8 @@ loop_takes target word path same =
               | inl is ↦ of_word target word (codes "get") (Get target) path is.0 is.1 (refl, refl)
               | inr rest ↦ elim (chosen (bytes_eq word (codes "save_loop")) (SaveLoop target) None
                   path rest) [
-                    | inl is ↦ of_word target word (codes "save_loop") (SaveLoop target) path is.0 is.1
+                    | inl is
+                        ↦ of_word target word (codes "save_loop") (SaveLoop target) path is.0 is.1
                         (refl, refl)
                     | inr none ↦ absurd cc
                   ]

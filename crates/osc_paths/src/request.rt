@@ -43,7 +43,8 @@ impl ReturnPath {
     /// The return path that these bytes are. None of them is zero.
     pub fn read(path: &[u8]) -> Option<ReturnPath>
         requires { IsTrue (has_no_zero path.now) }
-        ensures found { IfSome result (λ kept. (kept ≡ path.now) × IsTrue (is_return_path path.now)) }
+        ensures found { IfSome result (λ kept. (kept ≡ path.now) ×
+            IsTrue (is_return_path path.now)) }
         ensures only { IfNone result (is_return_path path.now ≡ false) }
     {
         if !is_return_path(path) {

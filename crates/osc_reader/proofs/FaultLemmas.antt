@@ -116,7 +116,8 @@ module _ (end : ℕ) where
       then_in (address_at end bytes) _ (address_in bytes)
       (λ address. then_in (tags_at end address.1) _ (tags_in address.1)
       (λ tags. then_in (args_at tags.0 end tags.1) _ (args_in tags.0 tags.1)
-      (λ args. good_in (is_nothing args.1) (Ok (record { address = address.0; args = args.0 })) kinds.Extra args.1 tt)))
+      (λ args. good_in (is_nothing args.1) (Ok (record { address = address.0; args = args.0 }))
+      kinds.Extra args.1 tt)))
 
   single_in : (bytes : List ℕ) → Within end (single_at end bytes)
   unfolding single_at

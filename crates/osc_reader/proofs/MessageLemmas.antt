@@ -186,7 +186,8 @@ blob_takes end bytes x same =
       is = inr (refl, blob);
       parts =
           took.parts ∙ ap (λ (b : List ℕ). took.front ++ b) behind_is
-          ∙ sym (append_assoc took.front (content ++ replicate zeros 0) (drop (size + zeros) behind));
+          ∙ sym (append_assoc took.front (content ++ replicate zeros 0)
+          (drop (size + zeros) behind));
     })
 
 pub blob_again : (end : ℕ) (front rest : List ℕ) → IsBlob front →

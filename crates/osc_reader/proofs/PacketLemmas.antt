@@ -209,7 +209,8 @@ part_takes (suc depth) end bytes messages same =
     cond b (bundle_at (part_at depth) end (drop 8 bytes)) (single_at end bytes) ≡ Ok messages →
     Says (suc depth) bytes messages) [
       | true ↦ λ headed read.
-          inr (bundle_takes (Says depth) (part_at depth) (part_takes depth) end bytes messages headed
+          inr (bundle_takes (Says depth) (part_at depth) (part_takes depth) end bytes
+          messages headed
           read)
       | false ↦ λ single read. inl (single_takes end bytes messages read)
     ] refl same

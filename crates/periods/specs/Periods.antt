@@ -24,7 +24,8 @@ silent_period channels bits most =
     period_of channels bits (replicate most silence) (replicate most silence)
 
 -- these are the buffers of a period
-pub record AreBuffers (channels bits : ℕ) (frames heard : List Sound) (bytes : List ℕ) : Type 0 where
+pub record AreBuffers (channels bits : ℕ) (frames heard : List Sound)
+    (bytes : List ℕ) : Type 0 where
   pub format : IsFormat channels bits
   pub some : 1 ≤ length frames
   pub within : length frames ≤ max_period

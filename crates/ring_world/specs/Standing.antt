@@ -1,8 +1,7 @@
 -- A world stands where engine and rings are in step with what was played, the output that it keeps
 -- is that of the run, and the outcomes that were put on the saver's ring, followed by those that
--- are remembered, are one for each end of a save among the blocks that were taken, in order. No sender
--- is beyond the quota.
--- "The world on one thread" in docs/rules.md.
+-- are remembered, are one for each end of a save among the blocks that were taken, in order. No
+-- sender is beyond the quota. "The world on one thread" in docs/rules.md.
 use Rattle.std.specs.Prelude.{◌≡◌, ◌≤◌, ℕ, List, [], ◌∷◌, ◌++◌, length}
 use Rattle.sl_base.specs.Sounds.{Sound}
 use Rattle.sl_commands.specs.declared.Block.{Block}

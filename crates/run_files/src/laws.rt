@@ -7,7 +7,8 @@ ghost use Rattle.run_files.specs.AllFiles.{Contents, HoldsRun, IsRunOf, ExceedsL
 
 /// What good files tell is one.
 pub fn a_run_has_one_reading()
-    ensures { (files : Files) (n : Named) (t other : Contents) → IsNamed n → HoldsRun (Some files) n t →
+    ensures { (files : Files) (n : Named) (t other : Contents) → IsNamed n →
+        HoldsRun (Some files) n t →
         HoldsRun (Some files) n other → t ≡ other }
 {}
 
@@ -24,7 +25,8 @@ pub fn a_run_has_one_first_bad_file()
 pub fn a_run_is_read_or_refused()
     ensures file { (files : Files) (n : Named) (t : Contents) (name : List ℕ) (kind line : ℕ) →
         IsNamed n → IsRunOf (Some files) n t → ¬ FirstBad (Some files) n name kind line }
-    ensures limit { (files : Files) (n : Named) (t : Contents) → IsNamed n → IsRunOf (Some files) n t →
+    ensures limit { (files : Files) (n : Named) (t : Contents) → IsNamed n →
+        IsRunOf (Some files) n t →
         ¬ ExceedsLimit (Some files) n }
     ensures order { (files : Files) (n : Named) (name : List ℕ) (kind line : ℕ) → IsNamed n →
         ExceedsLimit (Some files) n → ¬ FirstBad (Some files) n name kind line }

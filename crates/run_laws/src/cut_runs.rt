@@ -48,7 +48,8 @@ pub fn a_run_cut_at_a_frame_is_the_run()
         (entries_from cut es) ys }
     ensures whole { (es : List Entry) → (xs ys : List Sound) → (l : Looper) → FramesNeverFall 0 es →
         let cut = length xs in
-        run es (xs ++ ys) l ≡ ran_on cut (run (entries_before cut es) xs l) (entries_from cut es) ys }
+        run es (xs ++ ys) l
+        ≡ ran_on cut (run (entries_before cut es) xs l) (entries_from cut es) ys }
     ensures entries { (frame : ℕ) → (es : List Entry) → FramesNeverFall 0 es →
         es ≡ entries_before frame es ++ entries_from frame es }
     ensures stamped { (es : List Entry) → IsTrue (are_stamped es) → FramesNeverFall 0 es }

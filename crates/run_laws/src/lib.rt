@@ -1,5 +1,5 @@
-//! What holds of whole runs: laws of `run` in `looper_rules`, each the contract of a function with an
-//! empty body.
+//! What holds of whole runs: laws of `run` in `looper_rules`, each the contract of a function with
+//! an empty body.
 //!
 //! - `cut_runs`: a run may be cut into two at any frame and at any entry.
 //! - `replies`: one frame comes out for each that goes in, and replies answer gets and saves.

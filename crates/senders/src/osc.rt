@@ -42,8 +42,8 @@ impl Model for OscSender {
 }
 
 impl OscSender {
-    /// A sender that has heard nothing, on a ring that was sent nothing. It accepts `quota` commands
-    /// at most, 1048576 at most.
+    /// A sender that has heard nothing, on a ring that was sent nothing. It accepts `quota`
+    /// commands at most, 1048576 at most.
     pub fn new(
         alloc: Global,
         quota: u32,

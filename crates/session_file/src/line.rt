@@ -163,7 +163,8 @@ fn switches_of(words: &[&[u8]]) -> Option<(u8, u8, u32)>
 
 /// The numbers of a loop that words spell, each in its range.
 fn numbers_of(words: &[&[u8]]) -> Option<StripSettings>
-    ensures found { IfSome result (λ s. (map (λ w. w.now) words.now ≡ strip_words s) × StripFits s) }
+    ensures found { IfSome result
+        (λ s. (map (λ w. w.now) words.now ≡ strip_words s) × StripFits s) }
     ensures only { IfNone result ((s : StripSettings) → StripFits s →
         map (λ w. w.now) words.now ≢ strip_words s) }
 {

@@ -183,7 +183,8 @@ impl<'a> Reading<'a> {
         requires few { index < loops }
         requires most { loops ≤ 16 }
         ensures bytes { self.new.bytes ≡ self.old.bytes }
-        ensures lines { IfOk result (λ s. self.new.lines ≡ self.old.lines ++ Line.Loop index s ∷ []) }
+        ensures lines { IfOk result
+            (λ s. self.new.lines ≡ self.old.lines ++ Line.Loop index s ∷ []) }
         ensures within { IfOk result (λ s. IsTrue (is_strip s)) }
         ensures fault { IfErr result (IsFirst self.old.bytes) }
     {

@@ -12,10 +12,10 @@
 //!   a ring carries whether it may follow what was sent.
 //! - A fault of a text has a line, counted from 1, and a kind with a number, 1 to 6.
 //!
-//! Begin with `verb`, `mode` and `control`, then `command`, `entry`, `settings` and `block`; `laws` has
-//! what holds of the definitions.
-//! The rules are "Verbs and their names", "Controls", "Commands", "Entries", "Settings", "Replies",
-//! "Blocks of a save" and "Faults of texts" in docs/rules.md.
+//! Begin with `verb`, `mode` and `control`, then `command`, `entry`, `settings` and `block`; `laws`
+//! has what holds of the definitions. The rules are "Verbs and their names", "Controls",
+//! "Commands", "Entries", "Settings", "Replies", "Blocks of a save" and "Faults of texts" in
+//! docs/rules.md.
 #![tactic(auto)]
 
 mod block;

@@ -198,7 +198,8 @@ impl Model for Settings {
     ghost view = { λ s. record { rate = s.rate; globals = s.globals; strips = s.strips } };
 
     ghost invariant = { λ s. (s.loops ≡ length s.strips)
-        × IsTrue (are_settings (record { rate = s.rate; globals = s.globals; strips = s.strips })) };
+        × IsTrue (are_settings
+        (record { rate = s.rate; globals = s.globals; strips = s.strips })) };
 }
 
 fn are_settings(rate: u32, globals: &Globals, strips: &Strips) -> bool

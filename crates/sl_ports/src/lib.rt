@@ -10,8 +10,8 @@
 //!   isn't told.
 //! - Want of memory is an answer of its own, and no count tells of it.
 //! - `MemSink` and `MemKeeper` stand in memory, and fail at the calls whose numbers they are given.
-//!   `StdSink` and `DirKeeper` are the real ones, which remember the first call that failed, for the
-//!   program to tell.
+//!   `StdSink` and `DirKeeper` are the real ones, which remember the first call that failed, for
+//!   the program to tell.
 //!
 //! Begin with `sinks` and `keepers`. The rules are "The outside" in docs/rules.md.
 #![tactic(auto)]

@@ -6,7 +6,8 @@
 //!   0, `read_integer` a whole number of 32 bits; `is_numeral` and `is_integer` tell what looks
 //!   like one.
 //! - `target_of` gives the target that a word spells, `number_of` a number up to a greatest one,
-//!   and `behind` the words behind a first one. `press_of` gives the verb that words give to a loop.
+//!   and `behind` the words behind a first one. `press_of` gives the verb that words give to a
+//!   loop.
 //! - `have_shapes` tells whether words look like those of a form, whatever they name.
 //! - A form of text says how a line is spelled, what may follow, where `end` is due and what is
 //!   wrong with a line. Where a form is settled, a text has one reading: one list of things, or one
@@ -14,8 +15,8 @@
 //! - No call takes memory, but for what takes a line.
 //!
 //! Begin with `line`, then `numeral`, `integer`, `word`, `shape` and `form`; `laws` has what holds
-//! of the definitions. The rules are "Texts" and "Numbers in texts" in docs/formats.md and "Faults of
-//! texts" in docs/rules.md.
+//! of the definitions. The rules are "Texts" and "Numbers in texts" in docs/formats.md and "Faults
+//! of texts" in docs/rules.md.
 #![tactic(auto)]
 
 mod form;

@@ -158,7 +158,8 @@ fn form_behind(whole: usize, spelling: Spelling, part: Option<&[u8]>) -> Result<
     requires spelling { is_spelling (seen_spelling spelling) ≡ true }
     requires within { IfSome part (λ part. length part.now ≤ whole) }
     requires long { IfSome part (λ part. 4 ≤ length part.now) }
-    ensures { seen_form result ≡ form_behind whole (seen_spelling spelling) (seen_bytes part.entry) }
+    ensures { seen_form result
+        ≡ form_behind whole (seen_spelling spelling) (seen_bytes part.entry) }
 {
     match part {
         None => Err(WavFault::NoData),

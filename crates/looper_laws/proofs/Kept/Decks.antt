@@ -1,4 +1,5 @@
--- A loop keeps what it has to keep where only its deck, its streak or its count of refusals changes.
+-- A loop keeps what it has to keep where only its deck, its streak or its count of refusals
+-- changes.
 use Rattle.std.proofs.Common.{◌≡◌, ℕ, ◌+◌, ◌≤◌, min, Option, None, Bool, refl, arith, ◌∙◌}
 use Rattle.sl_commands.specs.declared.Mode.{Mode}
 use Rattle.sl_commands.specs.declared.Mode.TheVariants.{Recording, Overdubbing, Multiplying, Inserting, Replacing, Substituting}

@@ -64,7 +64,8 @@ comes_back :
     {A :
     Type 0} {a : Unchanged} (l : Loop A) (mode now : Mode) (pos : ℕ) (layers : List (Layer A))
     (x : Layer A) (xs : List (Layer A)) → Keeps a (so mode layers (x ∷ xs) l) →
-    InMode now (x ∷ layers) xs pos l.deck.backward → IsStreak now l.stack.streak pos l.deck.backward →
+    InMode now (x ∷ layers) xs pos l.deck.backward →
+    IsStreak now l.stack.streak pos l.deck.backward →
     Keeps a (moved now pos (x ∷ layers) xs l)
 comes_back l mode now pos layers x xs h in_mode streak =
     record {

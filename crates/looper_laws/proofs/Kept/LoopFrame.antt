@@ -260,7 +260,8 @@ module _ {A : Type 0} (a : Unchanged) (l : Loop A) (x : A) (seams tape : ℕ)
     (streak : Option LastWrite) where
   -- the loop with its stack written, before it goes on
   abbrev pub over : Mode → How → Loop A
-  over mode how = with_stack (written_stack how l.deck.pos x seams tape streak l.stack) (set_to mode l)
+  over mode how = with_stack (written_stack how l.deck.pos x seams tape streak l.stack)
+      (set_to mode l)
 
   -- a Recording with one frame more
   recording_writes :
@@ -333,7 +334,8 @@ module _ {A : Type 0} (a : Unchanged) (l : Loop A) (x : A) (seams tape : ℕ)
       in stops_keeps l.deck.rounding
       (at_place (l.deck.pos + 1) (over Multiplying (how_in Multiplying l.deck.backward))) refl
       (wrote (record l.deck { mode = Multiplying; pos = l.deck.pos + 1 })
-      (how_in Multiplying l.deck.backward) l.deck.pos x seams tape streak h w h.loop.in_mode.1 refl (
+      (how_in Multiplying l.deck.backward) l.deck.pos x seams tape streak h w
+      h.loop.in_mode.1 refl (
         still_open (how_in Multiplying l.deck.backward) l.deck.pos x seams l.stack.layers w.inside
             h.loop.in_mode.0,
         h.loop.in_mode.1,
@@ -416,7 +418,8 @@ module _ {A : Type 0} (a : Unchanged) (l : Loop A) (x : A) (seams tape : ℕ)
       overwrites_to Replacing (next_place l.deck.backward l.deck.pos) streak tt h w
       (next_inside l.deck.backward l.deck.pos (current_length over_layers)
       (over_inside Replacing tt h) e)
-      (goes_on_to streak Replacing l.deck.pos (next_place l.deck.backward l.deck.pos) l.deck.backward
+      (goes_on_to streak Replacing l.deck.pos (next_place l.deck.backward l.deck.pos)
+      l.deck.backward
       last (directed_behind l.deck.backward l.deck.pos (current_length over_layers) e))
   overwriting_goes Substituting false e is h w last =
       overwrites_to Substituting (next_place l.deck.backward l.deck.pos) streak tt h w

@@ -63,7 +63,8 @@ waiting_layers _ (l ∷ ls) redo pos backward quiet h = h.0
 
 -- no streak goes on there
 pub quiet_streak :
-    (mode : Mode) (streak : Option LastWrite) (pos : ℕ) (backward : Bool) → is_writing mode ≡ false →
+    (mode : Mode) (streak : Option LastWrite) (pos : ℕ) (backward : Bool) →
+    is_writing mode ≡ false →
     IsStreak mode streak pos backward →
     streak ≡ None
 quiet_streak Recording streak pos backward quiet h = absurd (not_both true refl quiet)
@@ -75,7 +76,8 @@ quiet_streak Substituting streak pos backward quiet h = absurd (not_both true re
 quiet_streak _ streak pos backward quiet h = h
 
 pub streak_in_quiet :
-    (mode : Mode) (streak : Option LastWrite) (pos : ℕ) (backward : Bool) → is_writing mode ≡ false →
+    (mode : Mode) (streak : Option LastWrite) (pos : ℕ) (backward : Bool) →
+    is_writing mode ≡ false →
     streak ≡ None →
     IsStreak mode streak pos backward
 streak_in_quiet Recording streak pos backward quiet h = absurd (not_both true refl quiet)
@@ -147,7 +149,8 @@ rests_again {l = l} mode pos backward before now inside h =
     let can : ArePlayable l.stack.layers l.deck.pos × AreClosed l.stack.redo =
     playable l.deck.mode l.stack.layers l.stack.redo l.deck.pos l.deck.backward before
     h.loop.in_mode
-    in let none : l.stack.streak ≡ None = quiet_streak l.deck.mode l.stack.streak l.deck.pos l.deck.backward
+    in let none : l.stack.streak ≡ None =
+    quiet_streak l.deck.mode l.stack.streak l.deck.pos l.deck.backward
     (resting_is_quiet l.deck.mode before) h.loop.streak
     in with_deck (record l.deck { mode = mode; pos = pos; backward = backward }) l.stack.streak h
     (in_resting mode l.stack.layers l.stack.redo pos backward now ((can.0.0, inside), can.1))

@@ -166,7 +166,8 @@ ends_keeps {a = a} {l = l} writing h =
     cond_both (l.controls.round == 0 || l.deck.rounding || at_stop l) (closed l) (rounds l)
     (λ r. Keeps a r)
     (λ now. closed_keeps writing h)
-    (λ later. with_deck (record l.deck { rounding = true }) l.stack.streak h h.loop.in_mode h.loop.streak
+    (λ later. with_deck (record l.deck { rounding = true }) l.stack.streak h
+    h.loop.in_mode h.loop.streak
     refl)
 
 -- the row of `multiply` and `insert`

@@ -133,7 +133,8 @@ module _ (test : Question → Bool) where
   -- the release of a loop's save takes no other question away
   one-left : (a : Option Asker) →
       one test (asked_as OfLoop (loop_asker a))
-      ≤ one test (asked_as OfLoop (loop_asker a)) + one test (asked_as OfLoop (loop_asker (without_loop a)))
+      ≤ one test (asked_as OfLoop (loop_asker a))
+      + one test (asked_as OfLoop (loop_asker (without_loop a)))
   one-left a = omega arith
 
   passes-left : (a : Option Asker) →
@@ -168,7 +169,8 @@ module _ (test : Question → Bool) where
   pub pending-left : (k : ℕ) (askers : List (Option Asker)) →
       pending test askers ≤ one test (asked_as OfLoop (ended_at k askers))
       + pending test (changed_at k without_loop askers)
-  pending-left k askers = let a = loops-left k askers in let b = session-left k askers in omega arith
+  pending-left k askers = let a = loops-left k askers in
+      let b = session-left k askers in omega arith
 
   -- nor does that of a session's save
   one-left_session : (a : Option Asker) →
@@ -255,7 +257,8 @@ module _ (test : Question → Bool) where
   session_save-kept : (refusal : Option ℕ) (e : Entry) (index : ℤ) (l : Looper) →
       1 ≤ length (askers_of l.tracks) → (refusal ≡ None → AreNone (askers_of l.tracks)) →
       pending test (askers_of l.tracks) + one test (Some (question_for e OfSession))
-      ≤ one test (option_map answered (option_map (λ n. reply_to e index OfSession (pos n)) refusal))
+      ≤ one test (option_map answered
+      (option_map (λ n. reply_to e index OfSession (pos n)) refusal))
       + pending test (askers_of (saves_session refusal (asker_of e true) l).tracks)
   session_save-kept None e index l some free =
       let same = ap (pending test) (map-pinned (of_session e.sender e.seq) l.tracks) in
@@ -542,4 +545,5 @@ start-once_each settings chunks initial es input e q begins held answered_all st
     own_question None none = absurd (cc)
     own_question (Some what) is =
         let same : question_for e what ≡ q = cc in
-        subst (λ p. is_of e.sender e.seq p ≡ true) same (both_true _ _ (eq-eqb e.sender e.sender refl) (eq-eqb e.seq e.seq refl))
+        subst (λ p. is_of e.sender e.seq p ≡ true) same
+        (both_true _ _ (eq-eqb e.sender e.sender refl) (eq-eqb e.seq e.seq refl))

@@ -78,7 +78,8 @@ module _ (test : Question → Bool) where
       ap (count_by test) (map-append answered xs ys)
       ∙ count-append (map answered xs) (map answered ys)
 
-  pub told-option : (o : Option Reply) → told test (option_to_list o) ≡ one test (option_map answered o)
+  pub told-option : (o : Option Reply) →
+      told test (option_to_list o) ≡ one test (option_map answered o)
   told-option None = refl
   told-option (Some r) = count-one (answered r)
 

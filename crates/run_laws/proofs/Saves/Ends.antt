@@ -32,7 +32,8 @@ parts-ends number index (h ∷ hs) (x ∷ xs) =
     ends-cond (length (h ∷ hs) + 1 == part_length)
     (Part number index ((h ∷ hs) ++ x ∷ []) ∷ parts_behind number index [] xs)
     (parts_behind number index ((h ∷ hs) ++ x ∷ []) xs) 0
-    (ap (λ k. 0 + k) (parts-ends number index [] xs)) (parts-ends number index ((h ∷ hs) ++ x ∷ []) xs)
+    (ap (λ k. 0 + k) (parts-ends number index [] xs))
+    (parts-ends number index ((h ∷ hs) ++ x ∷ []) xs)
 
 -- nor in those of all its lists
 lists-ends : (number index : ℕ) (lists : List (List Sound)) →
@@ -41,7 +42,8 @@ lists-ends number index [] = refl
 lists-ends number index (l ∷ ls) =
     let one = parts-ends number index [] l in
     let rest = lists-ends number (index + 1) ls in
-    ends-append (parts_of number index l) (parts_of_lists number (index + 1) ls) ∙ omega (arith, one, rest)
+    ends-append (parts_of number index l) (parts_of_lists number (index + 1) ls)
+    ∙ omega (arith, one, rest)
 
 -- one save ends in its blocks, at the last of them
 pub save-ends : (s : Save) → ends_in (blocks_of_save s) ≡ 1
@@ -60,7 +62,8 @@ all-ends (s ∷ saves) =
     ends-append (blocks_of_save s) (blocks_for_all saves) ∙ omega (arith, one, rest)
 
 -- the first ones of two lists
-pub take-front : {A : Type 0} (n : ℕ) (xs ys : List A) → n ≤ length xs → take n (xs ++ ys) ≡ take n xs
+pub take-front : {A : Type 0} (n : ℕ) (xs ys : List A) → n ≤ length xs →
+    take n (xs ++ ys) ≡ take n xs
 take-front zero xs ys few = refl
 take-front (suc n) [] ys few = absurd (omega arith)
 take-front (suc n) (x ∷ xs) ys few = ap (λ l. x ∷ l) (take-front n xs ys (omega arith))

@@ -2,7 +2,8 @@ use Rattle.std.proofs.Common.{arith}
 use Rattle.console_lines.proofs.NumberLemmas.{more_has_room}
 use Rattle.console_lines.proofs.telling.+push_number.Goals as goal
 
-pub push_digit-requires-else-number-lt10-clause-room : goal.push_digit-requires-else-number-lt10-clause-room
+pub push_digit-requires-else-number-lt10-clause-room :
+    goal.push_digit-requires-else-number-lt10-clause-room
 push_digit-requires-else-number-lt10-clause-room t c =
     omega (
       arith,

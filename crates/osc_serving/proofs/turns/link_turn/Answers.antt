@@ -15,7 +15,8 @@ returns-in-AtEnd g c =
     let t = c.in_default.ensures c.args.over.now in
     let e = c.in-AtEnd.ensures in (
       turn_at_end (osc_at (g.L.Link.seen c.args.link.now) c.args.sender.now c.args.replies.now
-          c.args.over.now) (g.L.Link.seen c.send_replies.new.link) (g.L.Link.seen c.receive.new.link)
+          c.args.over.now) (g.L.Link.seen c.send_replies.new.link)
+          (g.L.Link.seen c.receive.new.link)
           c.send_replies.new.sender c.receive.new.sender c.send_replies.new.replies c.args.over.now
           t.0 e.0 e.1,
       e.2,

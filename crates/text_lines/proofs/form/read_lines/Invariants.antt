@@ -7,7 +7,8 @@ abbrev pub invariant-lines : goal.invariant-lines
 invariant-lines g l =
     (g.L.FormLines.given l.so_far ≡ g.L.FormLines.given l.fn.none)
     × IsReadUpTo (g.L.FormLines.form (g.L.FormLines.given l.fn.none))
-    ((g.L.FormLines.form (g.L.FormLines.given l.fn.none)).header ++ (10 ∷ l.lines)) (g.L.FormLines.items l.so_far) l.rest
+    ((g.L.FormLines.form (g.L.FormLines.given l.fn.none)).header ++ (10 ∷ l.lines))
+    (g.L.FormLines.items l.so_far) l.rest
 
 abbrev pub decreases-lines : goal.decreases-lines
 decreases-lines g l = length l.rest

@@ -8,7 +8,8 @@ use Rattle.looper_engine.specs.Queues.{left_by}
 use Rattle.looper_engine.proofs.queue.Queue.release.Given as goal
 
 -- what a turn keeps of the saves that are due: those of before, and those of now
-pub record LeavesTheOthers (target : Target) (before now : List Pending) (index room : ℕ) : Type 0 where
+pub record LeavesTheOthers (target : Target) (before now : List Pending)
+    (index room : ℕ) : Type 0 where
   pub leaves : take index now ++ left_by target (drop index now) ≡ left_by target before
   pub looked_at : index ≤ length now
   pub no_more : length now ≤ length before

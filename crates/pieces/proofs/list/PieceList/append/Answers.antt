@@ -22,5 +22,6 @@ invariant_of-self c =
 pub returns-clause-continues : goal.returns-clause-continues
 returns-clause-continues c =
     rw (sym c.self.view_is)
-    (joined-continues-at c.args.address c.self.inside.pieces.items c.append_vec-piece.new.pieces.items
+    (joined-continues-at c.args.address c.self.inside.pieces.items
+    c.append_vec-piece.new.pieces.items
     c.append_vec-piece.ensures.items)

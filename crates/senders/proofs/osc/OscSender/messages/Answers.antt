@@ -21,7 +21,8 @@ messages-preserved g c =
           c.message-decision.ensures.stays,
       hears_next c.args.self.now.ring.capacity c.args.self.now.loops c.args.from
           c.args.messages.now c.messages.place m c.args.self.now.account.tally
-          c.messages.self.account.tally new c.messages.decisions.items c.push_reserved.new.self.items
+          c.messages.self.account.tally new c.messages.decisions.items
+          c.push_reserved.new.self.items
           d
           (take_next c.args.messages.now c.messages.place m c.messages-test.true
           c.index-messages-place.is) i.1 one c.push_reserved.ensures.items,
